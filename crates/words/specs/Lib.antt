@@ -1,0 +1,10 @@
+pub mod Answer
+pub mod Count
+pub mod Tick
+pub mod Link
+pub mod Status
+pub mod Bytes
+pub mod Cutting
+pub mod Control
+pub mod Reading
+pub mod Command
