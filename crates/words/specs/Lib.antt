@@ -5,6 +5,9 @@ pub mod Link
 pub mod Status
 pub mod Bytes
 pub mod Cutting
+pub mod Cut
 pub mod Control
 pub mod Reading
 pub mod Command
+pub mod Allowed
+pub mod Edges
