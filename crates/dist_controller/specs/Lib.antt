@@ -1,0 +1,4 @@
+pub mod State
+pub mod Asked
+pub mod Told
+pub mod Events
