@@ -7,7 +7,8 @@ use mathlib.Core.Logic.{_⊎_, inl, inr}
 use native.Mathlib.Omega.{arith}
 use lib.Dec.{eqb, leb}
 use borrow.Author.Tests.{eqb-true, leb-true}
-use Rattle.words.specs.Link.{modeAllows, inRanges}
+use Rattle.words.specs.Link.{modeAllows, inRanges, configuredOf}
+use Rattle.words.specs.declared.link.Link.{Link}
 
 -- a test and its other outcome, apart
 pub by : {G : Type 0} (t : Bool) → (t ≡ true → G) → (t ≡ false → G) → G
@@ -97,3 +98,8 @@ ranges a m s l w e =
         most-is : (l ≡ 1024) ⊎ (l ≡ 4096) → l ≤ 4096
         most-is (inl h) = omega arith
         most-is (inr h) = omega arith
+
+pub link-ranges : (link : Link) → configuredOf link ≡ true
+    → Ranges (link .address) (link .mode) (link .subaddress) (link .largest) (link .window)
+unfolding configuredOf
+link-ranges link e = ranges (link .address) (link .mode) (link .subaddress) (link .largest) (link .window) e

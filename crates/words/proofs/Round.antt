@@ -30,7 +30,7 @@ use Rattle.words.specs.declared.control.Request.the-variants as R
 use Rattle.words.specs.declared.control.DistributionConfirmation.the-variants as DC
 use Rattle.words.specs.declared.control.AcquisitionConfirmation.the-variants as AC
 use Rattle.words.proofs.Bounds.{bit-le}
-use Rattle.words.proofs.Ranges.{Ranges, ranges, by}
+use Rattle.words.proofs.Ranges.{link-ranges, by}
 
 -- ---- the fields of the second word, over plain numbers
 
@@ -103,9 +103,9 @@ not-over largest limit size h =
 module _ (link : Link) (size : ℕ) (flag : Bool) (count : ℕ) (ok : Allowed link size count) where
   -- 6 to 9
   pub read-made : readOf (listOf (madeOf link size flag count)) link ≡ Block size flag count
-  unfolding madeOf readOf controlOf plainOf configuredOf
+  unfolding madeOf readOf controlOf plainOf
   read-made =
-      let r = ranges (link .address) (link .mode) (link .subaddress) (link .largest) (link .window) (ok .configured) in
+      let r = link-ranges link (ok .configured) in
       let t = sized link size (ok .fits) in
       let b = bit-le flag in
       simp (

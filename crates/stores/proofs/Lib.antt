@@ -1,0 +1,4 @@
+pub mod Runs
+pub mod Bytes
+pub mod Messages
+pub mod Marking
