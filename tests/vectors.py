@@ -123,7 +123,8 @@ def tables():
             words_line(table, string, link)
             for at in range(16, 32):
                 words_line(table, turned(string, at), link)
-    for text, link in (("00000000", ZERO), ("00004B00", ONE), ("FFFFFFFF", ZERO)):
+    strays = [("00000000", ZERO), ("00004B00", ONE), ("FFFFFFFF", ZERO), ("00410000", ZERO), ("0401B407", Link(1, 20, 1024))]
+    for text, link in strays:
         for table in ["descriptor"] + OTHERS:
             words_line(table, bits(text), link)
     made("reset", RESET)
@@ -160,8 +161,9 @@ def taken(size, link):
 
 
 def blocks():
-    for size in (0, 1025, 65536, 65537):
-        line("asked", size, *taken(size, ZERO), *taken(size, ONE))
+    for size in (0, 1024, 1025, 65536, 65537):
+        both = [taken(size, ZERO), taken(size, ONE)]
+        line("asked", size, *both[0], *both[1], *({"ok": 0, "no": 3}[said[0]] for said in both))
     sizes = [1]
     for m in range(1, 65):
         sizes += [64 * m - 1, 64 * m, 64 * m + 1]
@@ -179,6 +181,8 @@ def blocks():
         after[here] = there
     for n in range(256):
         line("count", n, after[n], after[n])
+    for a, b in ((0, 0), (0, 255), (1, 129), (255, 1), (255, 255)):
+        line("same", a, b, *(["same" if format(a, "08b") == format(b, "08b") else "other"] * 2))
 
 
 # ---- messages

@@ -1,5 +1,6 @@
 // Blocks: what sizes are taken, how a block is cut, and which count comes next.
 use crate::print;
+use words::answer::number;
 use words::count::AcquisitionCount;
 use words::count::DistributionCount;
 use words::cutting;
@@ -11,9 +12,12 @@ fn answers(size: usize) {
     print::answer(cutting::size_answer(print::link_one(), size));
 }
 
+// With the two answers as numbers, too.
 fn asked_line(size: usize) {
     print::text(b"asked");
     answers(size);
+    print::number(number(cutting::size_answer(print::link_zero(), size)) as u64);
+    print::number(number(cutting::size_answer(print::link_one(), size)) as u64);
     print::end();
 }
 
@@ -60,13 +64,36 @@ fn counts() {
     }
 }
 
-// The last one is 1 in its low sixteen bits.
+fn verdict(same: bool) {
+    if same {
+        print::field(b"same");
+    } else {
+        print::field(b"other");
+    }
+}
+
+fn same_line(a: u8, b: u8) {
+    print::text(b"same");
+    print::number(a as u64);
+    print::number(b as u64);
+    verdict(DistributionCount(a).same(DistributionCount(b)));
+    verdict(AcquisitionCount(a).same(AcquisitionCount(b)));
+    print::end();
+}
+
+// The last size is 1 in its low sixteen bits.
 pub fn all() {
     asked_line(0);
+    asked_line(1024);
     asked_line(1025);
     asked_line(65536);
     asked_line(65537);
     size_line(1);
     sizes();
     counts();
+    same_line(0, 0);
+    same_line(0, 255);
+    same_line(1, 129);
+    same_line(255, 1);
+    same_line(255, 255);
 }

@@ -41,11 +41,9 @@ fn marked(error: bool, size: u16, count: u8) {
     print::number(count as u64);
 }
 
-fn descriptor_line(link: Link, words: Words) {
-    print::text(b"descriptor");
-    print::pair(words);
-    let both = [words.first, words.second];
-    let read = reading::read_descriptor(&both, link);
+// What a message to SA 27R is read as, of any number of words.
+fn descriptor(link: Link, words: &[u16]) {
+    let read = reading::read_descriptor(words, link);
     match read {
         Descriptor::Reset => print::field(b"reset"),
         Descriptor::Block {
@@ -56,6 +54,13 @@ fn descriptor_line(link: Link, words: Words) {
         Descriptor::Refused(n) => print::refused(n),
     }
     print::end();
+}
+
+fn descriptor_line(link: Link, words: Words) {
+    print::text(b"descriptor");
+    print::pair(words);
+    let both = [words.first, words.second];
+    descriptor(link, &both);
 }
 
 fn request_line(link: Link, words: Words) {
@@ -161,20 +166,11 @@ fn edge(link: Link, words: Words) {
     line(Table::Acquisition, link, words);
 }
 
-fn short(link: Link, words: &[u16]) {
+// A message of another number of words than two.
+fn length_line(link: Link, words: &[u16]) {
     print::text(b"words");
     print::number(words.len() as u64);
-    let read = reading::read_descriptor(words, link);
-    match read {
-        Descriptor::Reset => print::field(b"reset"),
-        Descriptor::Block {
-            size,
-            quality,
-            count,
-        } => sized(quality, size, count.0),
-        Descriptor::Refused(n) => print::refused(n),
-    }
-    print::end();
+    descriptor(link, words);
 }
 
 fn made(table: &[u8], words: Words) {
@@ -213,13 +209,17 @@ pub fn all() {
     edge(zero, print::words_of(0, 0));
     edge(one, print::words_of(0, 0x4B00));
     edge(zero, print::words_of(0xFFFF, 0xFFFF));
+    edge(zero, print::words_of(0x0041, 0x0000));
+    let mut narrow = one;
+    narrow.largest = 1024;
+    edge(narrow, print::words_of(0x0401, 0xB407));
     made(b"reset", control::reset_words());
     made_all(zero, 65, Quality::BestEffort, 1);
     made_all(zero, 1024, Quality::Verified, 254);
     made_all(one, 4096, Quality::Verified, 7);
     let three: [u16; 3] = [0x0041, 0x0B01, 0];
-    short(zero, &three[..0]);
-    short(zero, &three[..1]);
-    short(zero, &three[..2]);
-    short(zero, &three);
+    length_line(zero, &three[..0]);
+    length_line(zero, &three[..1]);
+    length_line(zero, &three[..2]);
+    length_line(zero, &three);
 }

@@ -1,4 +1,4 @@
-use borrow.Author.Tests.{le-leb, le-ltb, lt-leb, lt-ltb}
+use borrow.Author.Tests.{le-ltb, lt-ltb}
 use Rattle.vectors_lib.specs.Line.{digitOf}
 use borrow.Author.Needs.{needs}
 use Rattle.vectors_lib.proofs.print.digit.Statement.{statement}
@@ -12,20 +12,14 @@ add-result c = search needs
 
 returns : tie.Need-returns
 unfolding digitOf
-returns c = simp (
-  lt-ltb _ _ (c .if1 .taken),
-  lt-leb _ _ (c .if1 .taken),
-)
+returns c = simp (lt-ltb _ _ (c .if1 .taken))
 
 add-result-2 : tie.Need-add-result-2
 add-result-2 c = search needs
 
 returns-2 : tie.Need-returns-2
 unfolding digitOf
-returns-2 c = simp (
-  le-leb _ _ (c .if1 .left),
-  le-ltb _ _ (c .if1 .left),
-)
+returns-2 c = simp (le-ltb _ _ (c .if1 .left))
 
 pub digit-spec : {M : Type 1} → statement M
 digit-spec = tie.close (tie.spec cast-low add-result returns add-result-2 returns-2)
