@@ -25,6 +25,14 @@ fn kept(l: Link) {
     print::number(link::block_store(l) as u64);
 }
 
+fn finding(made: Configuring) {
+    match made {
+        Configuring::Configured(l) => kept(l),
+        Configuring::Refused(n) => print::refused(n),
+    }
+    print::end();
+}
+
 fn line(f: Five) {
     print::text(b"link");
     print::number(f.address as u64);
@@ -32,12 +40,7 @@ fn line(f: Five) {
     print::number(f.subaddress as u64);
     print::number(f.largest as u64);
     print::number(f.window as u64);
-    let made = link::configure(f.address, f.mode, f.subaddress, f.largest, f.window);
-    match made {
-        Configuring::Configured(l) => kept(l),
-        Configuring::Refused(n) => print::refused(n),
-    }
-    print::end();
+    finding(link::configure(f.address, f.mode, f.subaddress, f.largest, f.window));
 }
 
 fn address(base: Five, n: u32) {
@@ -120,6 +123,15 @@ fn around(base: Five) {
     windows(base);
 }
 
+fn verdict(configured: bool) {
+    if configured {
+        print::field(b"link");
+    } else {
+        print::field(b"none");
+    }
+    print::end();
+}
+
 // The same test over what a link holds.
 fn held_line(l: Link) {
     print::text(b"held");
@@ -128,12 +140,7 @@ fn held_line(l: Link) {
     print::number(l.subaddress as u64);
     print::number(l.largest as u64);
     print::number(l.window as u64);
-    if link::is_configured(l) {
-        print::field(b"link");
-    } else {
-        print::field(b"none");
-    }
-    print::end();
+    verdict(link::is_configured(l));
 }
 
 // A record of zeros, as storage is before configuring, is no link.

@@ -41,9 +41,7 @@ fn marked(error: bool, size: u16, count: u8) {
     print::number(count as u64);
 }
 
-// What a message to SA 27R is read as, of any number of words.
-fn descriptor(link: Link, words: &[u16]) {
-    let read = reading::read_descriptor(words, link);
+fn descriptor(read: Descriptor) {
     match read {
         Descriptor::Reset => print::field(b"reset"),
         Descriptor::Block {
@@ -53,21 +51,9 @@ fn descriptor(link: Link, words: &[u16]) {
         } => sized(quality, size, count.0),
         Descriptor::Refused(n) => print::refused(n),
     }
-    print::end();
 }
 
-fn descriptor_line(link: Link, words: Words) {
-    print::text(b"descriptor");
-    print::pair(words);
-    let both = [words.first, words.second];
-    descriptor(link, &both);
-}
-
-fn request_line(link: Link, words: Words) {
-    print::text(b"request");
-    print::pair(words);
-    let both = [words.first, words.second];
-    let read = reading::read_request(&both, link);
+fn request(read: Request) {
     match read {
         Request::Nothing => print::field(b"nothing"),
         Request::Reset => print::field(b"reset"),
@@ -78,6 +64,37 @@ fn request_line(link: Link, words: Words) {
         } => sized(quality, size, count.0),
         Request::Refused(n) => print::refused(n),
     }
+}
+
+fn distribution(read: DistributionConfirmation) {
+    match read {
+        DistributionConfirmation::Reset => print::field(b"reset"),
+        DistributionConfirmation::Block { size, error, count } => marked(error, size, count.0),
+        DistributionConfirmation::Refused(n) => print::refused(n),
+    }
+}
+
+fn acquisition(read: AcquisitionConfirmation) {
+    match read {
+        AcquisitionConfirmation::Reset => print::field(b"reset"),
+        AcquisitionConfirmation::Block { size, error, count } => marked(error, size, count.0),
+        AcquisitionConfirmation::Refused(n) => print::refused(n),
+    }
+}
+
+fn descriptor_line(link: Link, words: Words) {
+    print::text(b"descriptor");
+    print::pair(words);
+    let both = [words.first, words.second];
+    descriptor(reading::read_descriptor(&both, link));
+    print::end();
+}
+
+fn request_line(link: Link, words: Words) {
+    print::text(b"request");
+    print::pair(words);
+    let both = [words.first, words.second];
+    request(reading::read_request(&both, link));
     print::end();
 }
 
@@ -85,12 +102,7 @@ fn distribution_line(link: Link, words: Words) {
     print::text(b"confirmation27");
     print::pair(words);
     let both = [words.first, words.second];
-    let read = reading::read_distribution_confirmation(&both, link);
-    match read {
-        DistributionConfirmation::Reset => print::field(b"reset"),
-        DistributionConfirmation::Block { size, error, count } => marked(error, size, count.0),
-        DistributionConfirmation::Refused(n) => print::refused(n),
-    }
+    distribution(reading::read_distribution_confirmation(&both, link));
     print::end();
 }
 
@@ -98,12 +110,7 @@ fn acquisition_line(link: Link, words: Words) {
     print::text(b"confirmation28");
     print::pair(words);
     let both = [words.first, words.second];
-    let read = reading::read_acquisition_confirmation(&both, link);
-    match read {
-        AcquisitionConfirmation::Reset => print::field(b"reset"),
-        AcquisitionConfirmation::Block { size, error, count } => marked(error, size, count.0),
-        AcquisitionConfirmation::Refused(n) => print::refused(n),
-    }
+    acquisition(reading::read_acquisition_confirmation(&both, link));
     print::end();
 }
 
@@ -166,11 +173,12 @@ fn edge(link: Link, words: Words) {
     line(Table::Acquisition, link, words);
 }
 
-// A message of another number of words than two.
+// A message of any number of words.
 fn length_line(link: Link, words: &[u16]) {
     print::text(b"words");
     print::number(words.len() as u64);
-    descriptor(link, words);
+    descriptor(reading::read_descriptor(words, link));
+    print::end();
 }
 
 fn made(table: &[u8], words: Words) {
@@ -180,32 +188,49 @@ fn made(table: &[u8], words: Words) {
     print::end();
 }
 
-// The four tables' words for one block.
-fn made_all(link: Link, size: u16, quality: Quality, count: u8) {
-    let error = control::is_verified(quality);
+// The words of the descriptor and the request for one block.
+fn made_block(link: Link, size: u16, quality: Quality, count: u8) {
+    made(
+        b"8-3",
+        control::descriptor_words(link, size, quality, DistributionCount(count)),
+    );
+    made(
+        b"8-6",
+        control::request_words(link, size, quality, AcquisitionCount(count)),
+    );
+}
+
+// The words of its two confirmations.
+fn made_confirmation(link: Link, size: u16, error: bool, count: u8) {
     let out = DistributionCount(count);
-    let back = AcquisitionCount(count);
-    made(b"8-3", control::descriptor_words(link, size, quality, out));
-    made(b"8-6", control::request_words(link, size, quality, back));
     made(
         b"8-4",
         control::distribution_confirmation_words(link, size, error, out),
     );
+    let back = AcquisitionCount(count);
     made(
         b"8-5",
         control::acquisition_confirmation_words(link, size, error, back),
     );
 }
 
-pub fn all() {
-    let zero = print::link_zero();
-    let one = print::link_one();
+fn made_all(link: Link, size: u16, quality: Quality, count: u8) {
+    made_block(link, size, quality, count);
+    made_confirmation(link, size, control::is_verified(quality), count);
+}
+
+// Descriptors (a) to (d).
+fn flips(zero: Link, one: Link) {
     descriptor_all(zero, print::words_of(0x0000, 0x4B00));
     descriptor_all(zero, print::words_of(0x0041, 0x0B01));
     descriptor_all(zero, print::words_of(0x0400, 0x8BFE));
     descriptor_all(one, print::words_of(0x0000, 0xB407));
     others(zero, print::words_of(0x0041, 0x0B01));
     others(one, print::words_of(0x0000, 0xB407));
+}
+
+// The last two: a first word alone, and a size over a link of mode 1 that has 1024 bytes.
+fn edges(zero: Link, one: Link) {
     edge(zero, print::words_of(0, 0));
     edge(one, print::words_of(0, 0x4B00));
     edge(zero, print::words_of(0xFFFF, 0xFFFF));
@@ -213,13 +238,29 @@ pub fn all() {
     let mut narrow = one;
     narrow.largest = 1024;
     edge(narrow, print::words_of(0x0401, 0xB407));
+}
+
+// (a) to (d) as they are made.
+fn makes(zero: Link, one: Link) {
     made(b"reset", control::reset_words());
     made_all(zero, 65, Quality::BestEffort, 1);
     made_all(zero, 1024, Quality::Verified, 254);
     made_all(one, 4096, Quality::Verified, 7);
+}
+
+fn lengths(link: Link) {
     let three: [u16; 3] = [0x0041, 0x0B01, 0];
-    length_line(zero, &three[..0]);
-    length_line(zero, &three[..1]);
-    length_line(zero, &three[..2]);
-    length_line(zero, &three);
+    length_line(link, &three[..0]);
+    length_line(link, &three[..1]);
+    length_line(link, &three[..2]);
+    length_line(link, &three);
+}
+
+pub fn all() {
+    let zero = print::link_zero();
+    let one = print::link_one();
+    flips(zero, one);
+    edges(zero, one);
+    makes(zero, one);
+    lengths(zero);
 }

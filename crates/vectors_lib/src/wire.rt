@@ -83,17 +83,20 @@ fn ticks() {
     tick_line(65535);
 }
 
-fn command_line(words: &[u16], second: u16) {
-    print::text(b"command");
-    print::number(words.len() as u64);
-    print::word(second);
-    let read = command::read_command(words);
+fn finding(read: Command) {
     match read {
         Command::Reset => print::field(b"reset"),
         Command::Other => print::field(b"other"),
         Command::Refused(n) => print::refused(n),
     }
     print::end();
+}
+
+fn command_line(words: &[u16], second: u16) {
+    print::text(b"command");
+    print::number(words.len() as u64);
+    print::word(second);
+    finding(command::read_command(words));
 }
 
 // Message lengths at the edges, with one second word; all other words have every bit set.
