@@ -66,5 +66,5 @@ admitted c size store e =
       store = long (c .link) store s;
       accepted = not-false _ a;
       size = sized (c .link) size (then-first (sizeAnswerOf (c .link) size) (roomAnswerOf c) f);
-      room = roomy c (then-rest (sizeAnswerOf (c .link) size) (roomAnswerOf c) f)
+      room = roomy c (then-rest (sizeAnswerOf (c .link) size) (roomAnswerOf c) f);
     }))

@@ -43,7 +43,10 @@ fn put_transfer_words(c: Controller, store: &[u8], out: &mut [u16])
     }
     let transfer = c.transfer;
     let quality = transfer.quality;
-    put_two(out, words::control::descriptor_words(c.link, size, quality, c.standing.count));
+    put_two(
+        out,
+        words::control::descriptor_words(c.link, size, quality, c.standing.count),
+    );
 }
 
 fn put_words(c: Controller, store: &[u8], out: &mut [u16])

@@ -33,7 +33,14 @@ pub enum Reported {
 }
 
 // A new run, or refusal 20: a number outside its range, or the block store too short.
-pub fn configure(address: u32, mode: u32, subaddress: u32, largest: u32, window: u32, store: usize) -> Configuring
+pub fn configure(
+    address: u32,
+    mode: u32,
+    subaddress: u32,
+    largest: u32,
+    window: u32,
+    store: usize,
+) -> Configuring
     ensures { λ r. ⌜ r ≡ configuringOf address mode subaddress largest window store ⌝ }
 {
     let configuring = words::link::configure(address, mode, subaddress, largest, window);

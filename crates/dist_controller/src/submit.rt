@@ -73,7 +73,11 @@ fn started(c: Controller, quality: Quality, size: u16) -> Controller
         gone: 1,
         fate: Fate::Open,
     };
-    with_transfer(with_standing(c, standing, Phase::Sending), transfer, Phase::Sending)
+    with_transfer(
+        with_standing(c, standing, Phase::Sending),
+        transfer,
+        Phase::Sending,
+    )
 }
 
 // A block is submitted; where it is accepted it is written, message by message, into the lent store.

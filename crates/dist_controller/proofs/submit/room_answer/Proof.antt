@@ -10,24 +10,27 @@ is-open-requires c κs = search needs
 returns : tie.Need-returns
 unfolding roomAnswerOf
 returns c = simp (
-    c .if1 .taken,
-    ← c .before .is-open .ensures)
+  c .if1 .taken,
+  ← c .before .is-open .ensures,
+)
 
 returns-2 : tie.Need-returns-2
 unfolding roomAnswerOf
 returns-2 c = simp (
-    le-leb _ _ (c .if2 .taken),
-    le-ltb _ _ (c .if2 .taken),
-    c .before .before .if1 .left,
-    ← c .before .before .before .is-open .ensures)
+  le-leb _ _ (c .if2 .taken),
+  le-ltb _ _ (c .if2 .taken),
+  c .before .before .if1 .left,
+  ← c .before .before .before .is-open .ensures,
+)
 
 returns-3 : tie.Need-returns-3
 unfolding roomAnswerOf
 returns-3 c = simp (
-    lt-ltb _ _ (c .if2 .left),
-    lt-leb _ _ (c .if2 .left),
-    c .before .before .if1 .left,
-    ← c .before .before .before .is-open .ensures)
+  lt-ltb _ _ (c .if2 .left),
+  lt-leb _ _ (c .if2 .left),
+  c .before .before .if1 .left,
+  ← c .before .before .before .is-open .ensures,
+)
 
 pub room-answer-spec : {M : Type 1} → statement M
 room-answer-spec = tie.close (tie.spec is-open-requires returns returns-2 returns-3)

@@ -18,9 +18,10 @@ with-transfer-requires c κs = search needs
 returns : tie.Need-returns
 unfolding startedOf
 returns c = simp (
-    c .with-transfer .ensures,
-    c .before .with-standing .ensures,
-    c .before .before .before .next .ensures)
+  c .with-transfer .ensures,
+  c .before .with-standing .ensures,
+  c .before .before .before .next .ensures,
+)
 
 pub started-spec : {M : Type 1} → statement M
 started-spec =

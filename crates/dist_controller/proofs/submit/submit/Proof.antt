@@ -36,9 +36,10 @@ accept-requires c κs = search needs
 returns : tie.Need-returns
 unfolding submitOf storeAfter
 returns c = simp (
-    c .refuse .ensures,
-    ← c .before .before .before .before .submit-answer .ensures,
-    c .before .before .answer .given .1)
+  c .refuse .ensures,
+  ← c .before .before .before .before .submit-answer .ensures,
+  c .before .before .answer .given .1,
+)
     (refl, refl)
 
 same-length : tie.Need-same-length
@@ -55,12 +56,13 @@ returns-2 c =
     let r = link-ranges (a .c .link) (k .store .configured) in
     let small : length (a .block .now) % 65536 ≡ length (a .block .now) = omega arith in
     simp (
-    c .accept .ensures,
-    c .before .started .ensures,
-    c .before .before .before .before .store-block .ensures,
-    small,
-    ← e,
-    t)
+      c .accept .ensures,
+      c .before .started .ensures,
+      c .before .before .before .before .store-block .ensures,
+      small,
+      ← e,
+      t,
+    )
     (refl, refl)
 
 pub submit-spec : {M : Type 1} → statement M

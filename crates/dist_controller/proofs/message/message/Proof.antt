@@ -1,0 +1,58 @@
+use borrow.Author.Tests.{le-leb, le-ltb, lt-leb, lt-ltb}
+use Rattle.dist_controller.specs.Message.{bufferAfter}
+use Rattle.dist_controller.specs.Message.{messageOf}
+use mathlib.Core.Path.{refl}
+use borrow.Author.Needs.{needs}
+use Rattle.dist_controller.proofs.message.message.Statement.{statement}
+use Rattle.dist_controller.proofs.message.message.Tie as tie
+
+short-requires : tie.Need-short-requires
+short-requires c κs = search needs
+
+returns : tie.Need-returns
+unfolding bufferAfter messageOf
+returns c = simp (
+  c .if1 .taken,
+  ← c .before .short .ensures,
+) (refl, refl)
+
+returns-2 : tie.Need-returns-2
+unfolding bufferAfter messageOf
+returns-2 c = simp (
+  lt-ltb _ _ (c .if2 .taken),
+  lt-leb _ _ (c .if2 .taken),
+  c .before .if1 .left,
+  ← c .before .before .short .ensures,
+) (refl, refl)
+
+put-words-requires : tie.Need-put-words-requires
+put-words-requires c κs = search needs
+
+asked-for-requires : tie.Need-asked-for-requires
+asked-for-requires c κs = search needs
+
+same-length : tie.Need-same-length
+same-length c = search needs
+
+returns-3 : tie.Need-returns-3
+unfolding bufferAfter messageOf
+returns-3 c = simp (
+  c .asked-for .ensures,
+  c .before .before .before .put-words .ensures,
+  le-leb _ _ (c .before .before .before .before .before .if2 .left),
+  le-ltb _ _ (c .before .before .before .before .before .if2 .left),
+  c .before .before .before .before .before .before .if1 .left,
+  ← c .before .before .before .before .before .before .before .short .ensures,
+) (refl, refl)
+
+pub message-spec : {M : Type 1} → statement M
+message-spec =
+    tie.close
+    (tie.spec
+    short-requires
+    returns
+    returns-2
+    put-words-requires
+    asked-for-requires
+    same-length
+    returns-3)

@@ -1,0 +1,31 @@
+use Rattle.dist_controller.specs.Report.{reportOf}
+use borrow.Author.Needs.{needs}
+use Rattle.dist_controller.proofs.Listed.{length-list}
+use Rattle.dist_controller.proofs.report.report_of.Statement.{statement}
+use Rattle.dist_controller.proofs.report.report_of.Tie as tie
+
+is-configured-requires : tie.Need-is-configured-requires
+is-configured-requires c κs = search needs
+
+returns : tie.Need-returns
+unfolding reportOf
+returns c = simp (
+  c .if1 .taken,
+  ← c .before .is-configured .ensures,
+)
+
+acceptance-of-requires : tie.Need-acceptance-of-requires
+acceptance-of-requires c κs = search needs
+
+returns-2 : tie.Need-returns-2
+unfolding reportOf
+returns-2 c = simp (
+  length-list,
+  c .acceptance-of .ensures,
+  c .before .before .if1 .left,
+  ← c .before .before .before .is-configured .ensures,
+)
+
+pub report-of-spec : {M : Type 1} → statement M
+report-of-spec =
+    tie.close (tie.spec is-configured-requires returns acceptance-of-requires returns-2)
