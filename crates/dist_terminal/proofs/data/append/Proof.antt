@@ -1,0 +1,59 @@
+use borrow.Author.Tests.{le-leb, le-ltb, lt-leb, lt-ltb}
+use borrow.Author.Needs.{needs}
+use Rattle.dist_terminal.proofs.data.append.Statement.{statement}
+use Rattle.dist_terminal.proofs.data.append.Tie as tie
+
+returns : tie.Need-returns
+returns c = simp (
+    le-leb _ _ (c .if1 .taken),
+    le-ltb _ _ (c .if1 .taken))
+
+sub-least : tie.Need-sub-least
+sub-least c = search needs
+
+cast-least : tie.Need-cast-least
+cast-least c = search needs
+
+least-requires : tie.Need-least-requires
+least-requires c κs = search needs
+
+mul-write-message : tie.Need-mul-write-message
+mul-write-message c = search needs
+
+sub-write-message : tie.Need-sub-write-message
+sub-write-message c = search needs
+
+part-write-message-start : tie.Need-part-write-message-start
+part-write-message-start c = search needs
+
+part-write-message-end : tie.Need-part-write-message-end
+part-write-message-end c = search needs
+
+write-message-requires : tie.Need-write-message-requires
+write-message-requires c κs = search needs
+
+same-length : tie.Need-same-length
+same-length c = search needs
+
+returns-2 : tie.Need-returns-2
+returns-2 c = simp (
+    ← c .before .before .write-message .ensures,
+    ← c .before .before .before .before .before .least .ensures,
+    lt-ltb _ _ (c .before .before .before .before .before .before .if1 .left),
+    lt-leb _ _ (c .before .before .before .before .before .before .if1 .left))
+
+pub append-spec : {M : Type 1} → statement M
+append-spec =
+    tie.close
+    (tie.spec
+    returns
+    sub-least
+    cast-least
+    least-requires
+    mul-write-message
+    sub-write-message
+    part-write-message-start
+    part-write-message-end
+    write-message-requires
+    same-length
+    returns-2)

@@ -1,0 +1,91 @@
+use borrow.Author.Tests.{eq-eqb, ne-eqb}
+use native.Mathlib.Omega.{arith}
+use Rattle.dist_terminal.specs.Data.{dataOf}
+use Rattle.dist_terminal.specs.Data.{storeAfter}
+use mathlib.Core.Path.{refl}
+use borrow.Author.Needs.{needs}
+use Rattle.dist_terminal.proofs.data.data.Statement.{statement}
+use Rattle.dist_terminal.proofs.data.data.Tie as tie
+
+answer-requires : tie.Need-answer-requires
+answer-requires c κs = search needs
+
+enum-known-answer : tie.Need-enum-known-answer
+enum-known-answer c = search needs
+
+refuse-requires : tie.Need-refuse-requires
+refuse-requires c κs = search needs
+
+enum-told : tie.Need-enum-told
+enum-told c = search needs
+
+append-requires : tie.Need-append-requires
+append-requires c κs = omega arith
+
+noted-requires : tie.Need-noted-requires
+noted-requires c κs = omega arith
+
+accept-requires : tie.Need-accept-requires
+accept-requires c κs = search needs
+
+same-length : tie.Need-same-length
+same-length c = search needs
+
+returns : tie.Need-returns
+unfolding dataOf storeAfter
+returns c = simp (
+    c .accept .ensures,
+    c .before .noted .ensures,
+    c .before .before .before .before .append .ensures,
+    ne-eqb _ _ (c .before .before .before .before .before .before .if1 .taken),
+    c .before .before .before .before .before .before .before .before .enum-told .given .1,
+    ← c .before .before .before .before .before .before .before .before .before .before .answer .ensures) (refl, refl)
+
+place-requires : tie.Need-place-requires
+place-requires c κs = omega arith
+
+noted-requires-2 : tie.Need-noted-requires-2
+noted-requires-2 c κs = omega arith
+
+accept-requires-2 : tie.Need-accept-requires-2
+accept-requires-2 c κs = search needs
+
+returns-2 : tie.Need-returns-2
+unfolding dataOf storeAfter
+returns-2 c = simp (
+    c .refuse .ensures,
+    c .before .before .answer2 .given .1,
+    ← c .before .before .before .before .answer .ensures) (refl, refl)
+
+same-length-2 : tie.Need-same-length-2
+same-length-2 c = search needs
+
+returns-3 : tie.Need-returns-3
+unfolding dataOf storeAfter
+returns-3 c = simp (
+    c .accept2 .ensures,
+    c .before .noted2 .ensures,
+    c .before .before .before .before .place .ensures,
+    eq-eqb _ _ (c .before .before .before .before .before .before .if1 .left),
+    c .before .before .before .before .before .before .before .before .enum-told .given .1,
+    ← c .before .before .before .before .before .before .before .before .before .before .answer .ensures) (refl, refl)
+
+pub data-spec : {M : Type 1} → statement M
+data-spec =
+    tie.close
+    (tie.spec
+    answer-requires
+    enum-known-answer
+    refuse-requires
+    enum-told
+    append-requires
+    noted-requires
+    accept-requires
+    same-length
+    returns
+    place-requires
+    noted-requires-2
+    accept-requires-2
+    returns-2
+    same-length-2
+    returns-3)

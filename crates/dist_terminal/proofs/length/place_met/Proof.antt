@@ -1,0 +1,60 @@
+use borrow.Author.Tests.{le-leb, le-ltb, lt-leb, lt-ltb}
+use Rattle.dist_terminal.specs.Length.{placeMet}
+use borrow.Author.Needs.{needs}
+use Rattle.dist_terminal.proofs.length.place_met.Statement.{statement}
+use Rattle.dist_terminal.proofs.length.place_met.Tie as tie
+
+returns : tie.Need-returns
+unfolding placeMet
+returns c = simp (
+    le-leb _ _ (c .if1 .taken),
+    le-ltb _ _ (c .if1 .taken))
+
+cast-subaddress : tie.Need-cast-subaddress
+cast-subaddress c = search needs
+
+add-subaddress : tie.Need-add-subaddress
+add-subaddress c = search needs
+
+is-marked-requires : tie.Need-is-marked-requires
+is-marked-requires c κs = search needs
+
+returns-2 : tie.Need-returns-2
+unfolding placeMet
+returns-2 c = simp (
+    c .if2 .taken,
+    ← c .before .is-marked .ensures,
+    lt-ltb _ _ (c .before .before .if1 .left),
+    lt-leb _ _ (c .before .before .if1 .left))
+
+array-read-result : tie.Need-array-read-result
+array-read-result c = search needs
+
+cast-result : tie.Need-cast-result
+cast-result c = search needs
+
+message-words-requires : tie.Need-message-words-requires
+message-words-requires c κs = search needs
+
+returns-3 : tie.Need-returns-3
+unfolding placeMet
+returns-3 c = simp (
+    ← c .message-words .ensures,
+    c .before .before .if2 .left,
+    ← c .before .before .before .is-marked .ensures,
+    lt-ltb _ _ (c .before .before .before .before .if1 .left),
+    lt-leb _ _ (c .before .before .before .before .if1 .left))
+
+pub place-met-spec : {M : Type 1} → statement M
+place-met-spec =
+    tie.close
+    (tie.spec
+    returns
+    cast-subaddress
+    add-subaddress
+    is-marked-requires
+    returns-2
+    array-read-result
+    cast-result
+    message-words-requires
+    returns-3)

@@ -1,0 +1,81 @@
+use borrow.Author.Tests.{eq-eqb, ne-eqb}
+use Rattle.dist_terminal.specs.Length.{questionOf}
+use borrow.Author.Needs.{needs}
+use Rattle.dist_terminal.proofs.length.question_of.Statement.{statement}
+use Rattle.dist_terminal.proofs.length.question_of.Tie as tie
+
+is-configured-requires : tie.Need-is-configured-requires
+is-configured-requires c κs = search needs
+
+returns : tie.Need-returns
+unfolding questionOf
+returns c = simp (
+    c .if1 .taken,
+    ← c .before .is-configured .ensures)
+
+size-answer-requires : tie.Need-size-answer-requires
+size-answer-requires c κs = search needs
+
+enum-known-answer : tie.Need-enum-known-answer
+enum-known-answer c = search needs
+
+enum-told : tie.Need-enum-told
+enum-told c = search needs
+
+returns-2 : tie.Need-returns-2
+unfolding questionOf
+returns-2 c = simp (
+    ne-eqb _ _ (c .if2 .taken),
+    c .before .before .enum-told .given .1,
+    ← c .before .before .before .before .size-answer .ensures,
+    c .before .before .before .before .before .if1 .left,
+    ← c .before .before .before .before .before .before .is-configured .ensures)
+
+cast-messages : tie.Need-cast-messages
+cast-messages c = search needs
+
+messages-requires : tie.Need-messages-requires
+messages-requires c κs = search needs
+
+marked-requires : tie.Need-marked-requires
+marked-requires c κs = search needs
+
+lowest-missing-requires : tie.Need-lowest-missing-requires
+lowest-missing-requires c κs = search needs
+
+returns-3 : tie.Need-returns-3
+unfolding questionOf
+returns-3 c = simp (
+    c .before .answer .given .1,
+    ← c .before .before .before .size-answer .ensures,
+    c .before .before .before .before .if1 .left,
+    ← c .before .before .before .before .before .is-configured .ensures)
+
+returns-4 : tie.Need-returns-4
+unfolding questionOf
+returns-4 c = simp (
+    ← c .lowest-missing .ensures,
+    c .before .marked .ensures,
+    ← c .before .before .messages .ensures,
+    eq-eqb _ _ (c .before .before .before .if2 .left),
+    c .before .before .before .before .before .enum-told .given .1,
+    ← c .before .before .before .before .before .before .before .size-answer .ensures,
+    c .before .before .before .before .before .before .before .before .if1 .left,
+    ← c .before .before .before .before .before .before .before .before .before .is-configured .ensures)
+
+pub question-of-spec : {M : Type 1} → statement M
+question-of-spec =
+    tie.close
+    (tie.spec
+    is-configured-requires
+    returns
+    size-answer-requires
+    enum-known-answer
+    enum-told
+    returns-2
+    cast-messages
+    messages-requires
+    marked-requires
+    lowest-missing-requires
+    returns-3
+    returns-4)
