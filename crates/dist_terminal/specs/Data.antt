@@ -33,12 +33,15 @@ mostWords = 2048
 unfoldable pub receivedAfter : ℕ → ℕ → ℕ
 receivedAfter received n = min (received + n) 2049
 
+abbrev pub notedPlace : Terminal → ℕ → ℕ → Terminal
+notedPlace t subaddress n = withMarks (markedWith (t .marks) subaddress n) (t .received) t
+
+abbrev pub notedWords : Terminal → ℕ → Terminal
+notedWords t n = withMarks (t .marks) (receivedAfter (t .received) n) t
+
 -- mode 1 appends
 unfoldable pub notedOf : Terminal → ℕ → ℕ → Terminal
-notedOf t subaddress n =
-    cond (eqb (t .link .mode) 0)
-    (withMarks (markedWith (t .marks) subaddress n) (t .received) t)
-    (withMarks (t .marks) (receivedAfter (t .received) n) t)
+notedOf t subaddress n = cond (eqb (t .link .mode) 0) (notedPlace t subaddress n) (notedWords t n)
 
 -- 19: of 0 or over 32 words, or to a subaddress the link does not use
 unfoldable pub answerOf : Terminal → ℕ → ℕ → ℕ → Answer

@@ -12,7 +12,7 @@ ghost use Prim.Native.Nat.{_+_, _*_, _-_, _≤_};
 ghost use lib.ListN.{length, take};
 ghost use lib.Seq.{sets};
 ghost use Rattle.words.specs.Bytes.{bytesOf};
-ghost use Rattle.dist_terminal.specs.Data.{storeShort, markedWith, receivedAfter, notedOf, answerOf, dataOf, storeAfter};
+ghost use Rattle.dist_terminal.specs.Data.{storeShort, markedWith, receivedAfter, notedPlace, notedWords, answerOf, dataOf, storeAfter};
 
 // Whether the link is not configured, or the lent message store is too short for it.
 pub fn store_short(link: Link, store: usize) -> bool
@@ -46,16 +46,20 @@ fn received_after(received: u16, n: usize) -> u16
     stores::sizes::least(received as usize + n, 2049) as u16
 }
 
-// What arrived is noted.
-fn noted(t: Terminal, subaddress: u8, n: usize) -> Terminal
-    requires { ⌜ (n ≤ 32) × ((t .link .mode ≡ 0) → (11 ≤ subaddress) × (subaddress ≤ 26)) ⌝ }
-    ensures { λ r. ⌜ r ≡ notedOf t subaddress n ⌝ }
+fn noted_place(t: Terminal, subaddress: u8, n: usize) -> Terminal
+    requires { ⌜ (n ≤ 32) × ((11 ≤ subaddress) × (subaddress ≤ 26)) ⌝ }
+    ensures { λ r. ⌜ r ≡ notedPlace t subaddress n ⌝ }
+{
+    let marks = marked_with(t.marks, subaddress, (n % 256) as u8);
+    with_marks(t, marks, t.received)
+}
+
+fn noted_words(t: Terminal, n: usize) -> Terminal
+    requires { ⌜ n ≤ 32 ⌝ }
+    ensures { λ r. ⌜ r ≡ notedWords t n ⌝ }
 {
     let marks = t.marks;
-    if t.link.mode != 0 {
-        return with_marks(t, marks, received_after(t.received, n));
-    }
-    with_marks(t, marked_with(marks, subaddress, (n % 256) as u8), t.received)
+    with_marks(t, marks, received_after(t.received, n))
 }
 
 // A message of mode 0 overwrites the start of its place.
@@ -98,10 +102,10 @@ pub fn data(t: Terminal, subaddress: u8, words: &[u16], store: &mut [u8]) -> Ste
         Answer::Accepted => {
             if t.link.mode != 0 {
                 append(store, t.received, words);
-                return accept(noted(t, subaddress, words.len()));
+                return accept(noted_words(t, words.len()));
             }
             place(store, subaddress, words);
-            accept(noted(t, subaddress, words.len()))
+            accept(noted_place(t, subaddress, words.len()))
         }
     }
 }

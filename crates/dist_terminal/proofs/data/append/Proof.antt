@@ -1,12 +1,15 @@
-use borrow.Author.Tests.{le-leb, le-ltb, lt-leb, lt-ltb}
+use native.Mathlib.Omega.{arith}
+use mathlib.Core.Path.{_≡_, _∙_}
+use Prim.Native.Nat.{_-_}
+use Rattle.dist_terminal.proofs.Arriving.{kept}
 use borrow.Author.Needs.{needs}
 use Rattle.dist_terminal.proofs.data.append.Statement.{statement}
 use Rattle.dist_terminal.proofs.data.append.Tie as tie
 
 returns : tie.Need-returns
-returns c = simp (
-    le-leb _ _ (c .if1 .taken),
-    le-ltb _ _ (c .if1 .taken))
+returns c =
+    let z : 2048 - c .before .before .before .args .received ≡ 0 = omega (arith, c .if1 .taken) in
+    rw z
 
 sub-least : tie.Need-sub-least
 sub-least c = search needs
@@ -36,11 +39,12 @@ same-length : tie.Need-same-length
 same-length c = search needs
 
 returns-2 : tie.Need-returns-2
-returns-2 c = simp (
-    ← c .before .before .write-message .ensures,
-    ← c .before .before .before .before .before .least .ensures,
-    lt-ltb _ _ (c .before .before .before .before .before .before .if1 .left),
-    lt-leb _ _ (c .before .before .before .before .before .before .if1 .left))
+returns-2 c =
+    let k = c .before .before .before .before .before in
+    let a = k .before .before .before .before .args in
+    let p = k .before .before .before .before .pre in
+    c .before .before .write-message .ensures .1
+    ∙ kept (a .store .now) (a .received) (k .least .result) (a .words .now) (p .1) (p .0) (k .before .if1 .left) (k .least .ensures)
 
 pub append-spec : {M : Type 1} → statement M
 append-spec =

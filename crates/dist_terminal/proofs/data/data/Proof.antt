@@ -22,8 +22,8 @@ enum-told c = search needs
 append-requires : tie.Need-append-requires
 append-requires c κs = omega arith
 
-noted-requires : tie.Need-noted-requires
-noted-requires c κs = omega arith
+noted-words-requires : tie.Need-noted-words-requires
+noted-words-requires c κs = omega arith
 
 accept-requires : tie.Need-accept-requires
 accept-requires c κs = search needs
@@ -35,7 +35,7 @@ returns : tie.Need-returns
 unfolding dataOf storeAfter
 returns c = simp (
     c .accept .ensures,
-    c .before .noted .ensures,
+    c .before .noted-words .ensures,
     c .before .before .before .before .append .ensures,
     ne-eqb _ _ (c .before .before .before .before .before .before .if1 .taken),
     c .before .before .before .before .before .before .before .before .enum-told .given .1,
@@ -44,8 +44,8 @@ returns c = simp (
 place-requires : tie.Need-place-requires
 place-requires c κs = omega arith
 
-noted-requires-2 : tie.Need-noted-requires-2
-noted-requires-2 c κs = omega arith
+noted-place-requires : tie.Need-noted-place-requires
+noted-place-requires c κs = omega arith
 
 accept-requires-2 : tie.Need-accept-requires-2
 accept-requires-2 c κs = search needs
@@ -64,7 +64,7 @@ returns-3 : tie.Need-returns-3
 unfolding dataOf storeAfter
 returns-3 c = simp (
     c .accept2 .ensures,
-    c .before .noted2 .ensures,
+    c .before .noted-place .ensures,
     c .before .before .before .before .place .ensures,
     eq-eqb _ _ (c .before .before .before .before .before .before .if1 .left),
     c .before .before .before .before .before .before .before .before .enum-told .given .1,
@@ -79,12 +79,12 @@ data-spec =
     refuse-requires
     enum-told
     append-requires
-    noted-requires
+    noted-words-requires
     accept-requires
     same-length
     returns
     place-requires
-    noted-requires-2
+    noted-place-requires
     accept-requires-2
     returns-2
     same-length-2

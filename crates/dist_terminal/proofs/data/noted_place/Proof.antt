@@ -1,0 +1,21 @@
+use borrow.Author.Needs.{needs}
+use Rattle.dist_terminal.proofs.data.noted_place.Statement.{statement}
+use Rattle.dist_terminal.proofs.data.noted_place.Tie as tie
+
+cast-marked-with : tie.Need-cast-marked-with
+cast-marked-with c = search needs
+
+marked-with-requires : tie.Need-marked-with-requires
+marked-with-requires c κs = search needs
+
+with-marks-requires : tie.Need-with-marks-requires
+with-marks-requires c κs = search needs
+
+returns : tie.Need-returns
+returns c = simp (
+    c .with-marks .ensures,
+    c .before .marked-with .ensures)
+
+pub noted-place-spec : {M : Type 1} → statement M
+noted-place-spec =
+    tie.close (tie.spec cast-marked-with marked-with-requires with-marks-requires returns)

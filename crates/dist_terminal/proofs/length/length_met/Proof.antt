@@ -1,0 +1,29 @@
+use borrow.Author.Tests.{eq-eqb, ne-eqb}
+use Rattle.dist_terminal.specs.Length.{lengthMet}
+use borrow.Author.Needs.{needs}
+use Rattle.dist_terminal.proofs.length.length_met.Statement.{statement}
+use Rattle.dist_terminal.proofs.length.length_met.Tie as tie
+
+add-result : tie.Need-add-result
+add-result c = search needs
+
+returns : tie.Need-returns
+unfolding lengthMet
+returns c = simp (ne-eqb _ _ (c .before .if1 .taken))
+
+messages-requires : tie.Need-messages-requires
+messages-requires c κs = search needs
+
+places-met-requires : tie.Need-places-met-requires
+places-met-requires c κs = search needs
+
+returns-2 : tie.Need-returns-2
+unfolding lengthMet
+returns-2 c = simp (
+    ← c .places-met .ensures,
+    ← c .before .messages .ensures,
+    eq-eqb _ _ (c .before .before .if1 .left))
+
+pub length-met-spec : {M : Type 1} → statement M
+length-met-spec =
+    tie.close (tie.spec add-result returns messages-requires places-met-requires returns-2)
