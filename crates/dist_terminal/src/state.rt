@@ -73,7 +73,10 @@ pub fn fresh(link: Link) -> Terminal
         seen: false,
         handled: DistributionCount(0),
         hand: Hand::Empty,
-        shown: Words { first: 0, second: 0 },
+        shown: Words {
+            first: 0,
+            second: 0,
+        },
         marks,
         received: 0,
     }

@@ -1,31 +1,22 @@
 -- Bytes and words: element by element, there and back, and with each word's bytes exchanged.
 -- Assumes nothing.
-use mathlib.Core.Path.{_≡_, refl, ap}
+use mathlib.Core.Path.{_≡_, refl, sym, ap, _∙_}
 use mathlib.Core.List.{List, [], _∷_, map}
 use Prim.Native.Nat.{ℕ, zero, suc, _+_, _*_, _/_, _%_, _≤_, _<_}
 use native.Mathlib.Omega.{arith}
-use lib.ListN.{length, take, drop, getD}
-use lib.Seq.{sets, sets-eq, take-at}
-use Rattle.words.specs.Bytes.{bytesOf, wordsOf}
+use lib.ListN.{length, take, drop, getD, replicate}
+use lib.Seq.{sets, sets-eq, take-at, length-take-le, take-append-seam}
+use Rattle.stores.proofs.Runs.{take-sets, sets-again}
+use Rattle.words.specs.Bytes.{bytesOf, wordsOf, filler, Octets}
+use Rattle.words.proofs.Bytes.{length-bytesOf, length-wordsOf, words-bytes, bytes-words}
 use Rattle.stores.specs.Swapping.{swapOf, lowBytesOf, lowWordsOf}
 
 -- ---- lengths
-
-pub length-bytesOf : (ws : List ℕ) → length (bytesOf ws) ≡ 2 * length ws
-unfolding bytesOf
-length-bytesOf [] = refl
-length-bytesOf (w ∷ ws) = omega (arith, length-bytesOf ws)
 
 pub length-lowBytesOf : (ws : List ℕ) → length (lowBytesOf ws) ≡ 2 * length ws
 unfolding lowBytesOf
 length-lowBytesOf [] = refl
 length-lowBytesOf (w ∷ ws) = omega (arith, length-lowBytesOf ws)
-
-pub length-wordsOf : (b : List ℕ) → length (wordsOf b) ≡ (length b + 1) / 2
-unfolding wordsOf
-length-wordsOf [] = refl
-length-wordsOf (x ∷ []) = refl
-length-wordsOf (x ∷ y ∷ r) = omega (arith, length-wordsOf r)
 
 pub length-lowWordsOf : (b : List ℕ) → length (lowWordsOf b) ≡ (length b + 1) / 2
 unfolding lowWordsOf
@@ -115,28 +106,29 @@ swapped-low (x ∷ y ∷ r) f =
     let e : (y * 256 + x) % 256 * 256 + (y * 256 + x) / 256 ≡ x * 256 + y = omega arith in
     rw (e, swapped-low r (λ i. f (suc (suc i))))
 
+map-take : (f : ℕ → ℕ) (n : ℕ) (l : List ℕ) → map f (take n l) ≡ take n (map f l)
+map-take f zero l = refl
+map-take f (suc n) [] = refl
+map-take f (suc n) (x ∷ l) = ap (λ (r : List ℕ). f x ∷ r) (map-take f n l)
+
+-- n words read low byte first, and exchanged where they stand
+pub pairs-read : (out b : List ℕ) (n : ℕ) → n ≤ length out → 2 * n ≤ length b → ((i : ℕ) → getD b i 0 < 256)
+    → sets (sets out 0 (take n (lowWordsOf b))) 0 (map swapOf (take n (sets out 0 (take n (lowWordsOf b))))) ≡ sets out 0 (take n (wordsOf b))
+pairs-read out b n h k f =
+    let low = take n (lowWordsOf b) in
+    let e = length-lowWordsOf b in
+    let l : length low ≡ n = length-take-le n (lowWordsOf b) (omega arith) in
+    let w = length-wordsOf b in
+    let m : length (take n (wordsOf b)) ≡ n = length-take-le n (wordsOf b) (omega arith) in
+    let is : map swapOf (take n (sets out 0 low)) ≡ take n (wordsOf b) =
+    rw (take-sets out low n (sym l) h, map-take swapOf n (lowWordsOf b), swapped-low b f) in
+    ap (λ (vs : List ℕ). sets (sets out 0 low) 0 vs) is ∙ sets-again out low (take n (wordsOf b)) (omega arith) (omega arith)
+
 -- ---- there and back
 
-pub words-bytes : (ws : List ℕ) → wordsOf (bytesOf ws) ≡ ws
-unfolding bytesOf wordsOf
-words-bytes [] = refl
-words-bytes (w ∷ ws) =
-    let e : w / 256 * 256 + w % 256 ≡ w = omega arith in
-    rw (e, words-bytes ws)
-
--- the bytes of the words of bytes, as many as there were: an odd last byte has a filler after it
-pub bytes-words : (b : List ℕ) → ((i : ℕ) → getD b i 0 < 256) → take (length b) (bytesOf (wordsOf b)) ≡ b
-unfolding bytesOf wordsOf
-bytes-words [] f = refl
-bytes-words (x ∷ []) f =
-    let h : x < 256 = f 0 in
-    let e : (x * 256 + 0) / 256 ≡ x = omega arith in
-    rw e
-bytes-words (x ∷ y ∷ r) f =
-    let h : y < 256 = f 1 in
-    let e : (x * 256 + y) / 256 ≡ x = omega arith in
-    let g : (x * 256 + y) % 256 ≡ y = omega arith in
-    rw (e, g, bytes-words r (λ i. f (suc (suc i))))
+-- the bytes of the words of bytes, as many as there were
+pub bytes-back : (b : List ℕ) → Octets b → take (length b) (bytesOf (wordsOf b)) ≡ b
+bytes-back b f = rw (bytes-words b f) (take-append-seam b (replicate (length b % 2) filler))
 
 -- words that were written are read back
 pub read-back : (b ws : List ℕ) (n : ℕ) → n ≡ 2 * length ws → n ≤ length b → wordsOf (take n (sets b 0 (bytesOf ws))) ≡ ws

@@ -1,4 +1,5 @@
 pub mod Runs
 pub mod Bytes
 pub mod Messages
+pub mod Digits
 pub mod Marking

@@ -1,138 +1,174 @@
--- The sixteen marks: what the bits of a number say of its list of marks, and what a mark changes.
+-- The sixteen marks: what a mark changes, and what is missing.
 -- Assumes nothing.
-use mathlib.Core.Path.{_≡_, refl, ap, _∙_}
-use mathlib.Core.Bool.{Bool, true, false, cond}
-use mathlib.Core.Logic.{_⊎_, inl, inr}
+use mathlib.Core.Path.{_≡_, refl, sym, ap, _∙_}
+use mathlib.Core.Bool.{Bool, true, false, cond, _&&_}
 use mathlib.Core.List.{List, [], _∷_}
-use Prim.Native.Nat.{ℕ, zero, suc, _+_, _-_, _*_, _/_, _%_, _^_, _≤_, _<_}
-use native.Mathlib.Nat.{pow-suc}
+use Prim.Native.Nat.{ℕ, zero, suc, _+_, _-_, _≤_, _<_}
 use native.Mathlib.Omega.{arith}
-use lib.ListN.{length, take, getD, set}
-use lib.Dec.{eqb}
-use lib.Bits.{bitAnd, bitOr, and-step, or-step, or-zero-r}
-use lib.Count.{ones, ones-step, trailingZeros, trailing-of-zero, under}
-use lib.Pow.{pow-pos, pow-lt, shr-shr}
-use Rattle.stores.specs.Marks.{marksOf, numberOf, trues, firstFalse}
+use lib.ListN.{length, take, getD, set, length-take, length-set}
+use lib.Seq.{getD-take, getD-set-same, getD-set-other, set-getD}
+use borrow.Author.Tests.{le-leb, lt-ltb, leb-true, ltb-true, ltb-false}
+use Rattle.words.proofs.Ranges.{by, both}
+use lib.Dec.{leb, ltb}
+use Rattle.stores.specs.Marks.{marksOf, numberOf, trues, firstFalse, hasMark, markOf, isMarkedOf, markedOf, lowestMissingOf}
+use Rattle.stores.proofs.Digits.{length-marks, number-marks, marks-number, trues-le, trues-more, number-lt}
 
--- ---- digits
+-- ---- what a mark changes
 
-digit : (n : ℕ) → (n % 2 ≡ 0) ⊎ (n % 2 ≡ 1)
-digit n = go (n % 2) (omega arith)
+inside : (s : ℕ) → hasMark s ≡ true → (11 ≤ s) × (s ≤ 26)
+unfolding hasMark
+inside s h = let b = both (leb 11 s) (leb s 26) h in (leb-true 11 s (b .0), leb-true s 26 (b .1))
+
+marks-after : (m s : ℕ) → marksOf 16 (numberOf (set (marksOf 16 m) (s - 11) true)) ≡ set (marksOf 16 m) (s - 11) true
+marks-after m s = marks-number 16 (set (marksOf 16 m) (s - 11) true) (simp length-set (length-marks 16 m))
+
+-- a subaddress that can be marked is marked after its mark
+pub marked-same : (m s : ℕ) → hasMark s ≡ true → isMarkedOf (markOf m s) s ≡ true
+unfolding isMarkedOf markOf
+marked-same m s h =
+    let b = inside s h in
+    let l = length-marks 16 m in
+    simp (h, marks-after m s, getD-set-same (marksOf 16 m) (s - 11) true false (omega arith))
+
+-- and no other mark changes
+pub marked-other : (m s t : ℕ) → (t ≡ s → ⊥) → isMarkedOf (markOf m s) t ≡ isMarkedOf m t
+unfolding isMarkedOf markOf
+marked-other m s t ne = by (hasMark t) there (λ e. simp e)
   where
-    go : (r : ℕ) → r < 2 → (r ≡ 0) ⊎ (r ≡ 1)
-    go zero h = inl refl
-    go (suc zero) h = inr refl
-    go (suc (suc r)) h = let z : ⊥ = omega arith in absurd z
+    there : hasMark t ≡ true → (hasMark t && getD (marksOf 16 (cond (hasMark s) (numberOf (set (marksOf 16 m) (s - 11) true)) m)) (t - 11) false) ≡ (hasMark t && getD (marksOf 16 m) (t - 11) false)
+    there e = by (hasMark s) (λ f.
+        let b = inside s f in
+        let d = inside t e in
+        let apart : t - 11 ≡ s - 11 → ⊥ = λ z. ne (omega arith) in
+        simp (e, f, marks-after m s, getD-set-other (marksOf 16 m) (s - 11) (t - 11) true false apart)) (λ f. simp f)
 
--- a digit from its mark
-digit-is : (n : ℕ) → cond (eqb (n % 2) 1) 1 0 ≡ n % 2
-digit-is n = go (digit n)
-  where
-    go : (n % 2 ≡ 0) ⊎ (n % 2 ≡ 1) → cond (eqb (n % 2) 1) 1 0 ≡ n % 2
-    go (inl e) = rw e
-    go (inr e) = rw e
-
-halved : (k m : ℕ) → m < 2 ^ suc k → m / 2 < 2 ^ k
-halved k m h = let g = rw pow-suc at h in omega arith
-
-pub length-marks : (k m : ℕ) → length (marksOf k m) ≡ k
+no-digit : (k i : ℕ) → getD (marksOf k 0) i false ≡ false
 unfolding marksOf
-length-marks zero m = refl
-length-marks (suc k) m = ap suc (length-marks k (m / 2))
+no-digit zero i = refl
+no-digit (suc k) zero = refl
+no-digit (suc k) (suc i) = no-digit k i
 
--- a number is the number of its marks, and marks those of their number
-pub number-marks : (k m : ℕ) → m < 2 ^ k → numberOf (marksOf k m) ≡ m
-unfolding marksOf numberOf
-number-marks zero m h = omega arith
-number-marks (suc k) m h = rw (digit-is m, number-marks k (m / 2) (halved k m h)) (omega arith)
+pub none-marked : (s : ℕ) → isMarkedOf 0 s ≡ false
+unfolding isMarkedOf
+none-marked s = by (hasMark s) (λ e. simp (e, no-digit 16 (s - 11))) (λ e. simp e)
 
-pub marks-number : (k : ℕ) (bs : List Bool) → length bs ≡ k → marksOf k (numberOf bs) ≡ bs
-unfolding marksOf numberOf
-marks-number zero [] e = refl
-marks-number zero (b ∷ bs) e = let z : ⊥ = omega arith in absurd z
-marks-number (suc k) [] e = let z : ⊥ = omega arith in absurd z
-marks-number (suc k) (true ∷ bs) e =
-    let a : (1 + 2 * numberOf bs) % 2 ≡ 1 = omega arith in
-    let b : (1 + 2 * numberOf bs) / 2 ≡ numberOf bs = omega arith in
-    rw (a, b, marks-number k bs (omega arith))
-marks-number (suc k) (false ∷ bs) e =
-    let a : (0 + 2 * numberOf bs) % 2 ≡ 0 = omega arith in
-    let b : (0 + 2 * numberOf bs) / 2 ≡ numberOf bs = omega arith in
-    rw (a, b, marks-number k bs (omega arith))
+pub none-counted : markedOf 0 ≡ 0
+unfolding markedOf marksOf trues
+none-counted = refl
 
--- ---- the machine's operations
+pub marked-le : (m : ℕ) → markedOf m ≤ 16
+unfolding markedOf
+marked-le m = let l = length-marks 16 m in omega (arith, trues-le (marksOf 16 m))
 
--- the count of ones is the count of marks
-pub ones-trues : (k m : ℕ) → m < 2 ^ k → ones m ≡ trues (marksOf k m)
-unfolding marksOf trues ones
-ones-trues zero m h = let z : m ≡ 0 = omega arith in rw z
-ones-trues (suc k) m h = rw (ones-step m, digit-is m) (ap (λ (x : ℕ). m % 2 + x) (ones-trues k (m / 2) (halved k m h)))
+-- a new mark counts one more; an old one changes nothing
+pub marked-more : (m s : ℕ) → hasMark s ≡ true → isMarkedOf m s ≡ false → markedOf (markOf m s) ≡ markedOf m + 1
+unfolding isMarkedOf markOf markedOf
+marked-more m s h e =
+    let b = inside s h in
+    let l = length-marks 16 m in
+    simp (h, marks-after m s) (trues-more (marksOf 16 m) (s - 11) (omega arith) (simp h at e))
 
-pub trues-le : (bs : List Bool) → trues bs ≤ length bs
-unfolding trues
-trues-le [] = omega arith
-trues-le (true ∷ bs) = omega (arith, trues-le bs)
-trues-le (false ∷ bs) = omega (arith, trues-le bs)
+pub mark-twice : (m s : ℕ) → m < 65536 → isMarkedOf m s ≡ true → markOf m s ≡ m
+unfolding isMarkedOf markOf
+mark-twice m s h e =
+    let b = both (hasMark s) (getD (marksOf 16 m) (s - 11) false) e in
+    let same : set (marksOf 16 m) (s - 11) true ≡ marksOf 16 m = rw (b .1) at (set-getD (marksOf 16 m) (s - 11) false) in
+    simp (b .0, same) (number-marks 16 m h)
 
--- `or` with 2 ^ i sets mark i
-pub or-marks : (k m i : ℕ) → marksOf k (bitOr m (2 ^ i)) ≡ set (marksOf k m) i true
-unfolding marksOf
-or-marks zero m i = refl
-or-marks (suc k) m zero =
-    let e : bitOr m 1 ≡ m / 2 * 2 + 1 = omega (arith, or-step m 1, or-zero-r (m / 2)) in
-    let a : bitOr m 1 % 2 ≡ 1 = omega arith in
-    let b : bitOr m 1 / 2 ≡ m / 2 = omega arith in
-    rw (a, b)
-or-marks (suc k) m (suc i) =
-    let p : 2 ^ suc i ≡ 2 ^ i * 2 = pow-suc 2 i in
-    let h : 2 ^ suc i / 2 ≡ 2 ^ i = omega arith in
-    let z : 2 ^ suc i % 2 ≡ 0 = omega arith in
-    let s = rw (h, z) at (or-step m (2 ^ suc i)) in
-    let a : bitOr m (2 ^ suc i) % 2 ≡ m % 2 = omega arith in
-    let b : bitOr m (2 ^ suc i) / 2 ≡ bitOr (m / 2) (2 ^ i) = omega arith in
-    rw (a, b) (ap (λ (l : List Bool). eqb (m % 2) 1 ∷ l) (or-marks k (m / 2) i))
+pub mark-lt : (m s : ℕ) → m < 65536 → markOf m s < 65536
+unfolding markOf
+mark-lt m s h =
+    let n = number-lt (set (marksOf 16 m) (s - 11) true) in
+    let l : length (set (marksOf 16 m) (s - 11) true) ≡ 16 = simp length-set (length-marks 16 m) in
+    by (hasMark s) (λ e. simp e (rw l at n)) (λ e. simp e h)
 
--- a bit at its place, as the code shifts it
-pub bit-is : (i : ℕ) → i < 16 → 1 * 2 ^ i % 65536 ≡ 2 ^ i
-bit-is i h = let b : 2 ^ i < 2 ^ 16 = pow-lt h in omega arith
+-- ---- what is missing
 
--- mark i is the digit that a shift by i brings down
-pub mark-at : (k m i : ℕ) → i < k → getD (marksOf k m) i false ≡ eqb (m / 2 ^ i % 2) 1
-unfolding marksOf
-mark-at zero m i h = let z : ⊥ = omega arith in absurd z
-mark-at (suc k) m zero h = let e : m / 1 ≡ m = omega arith in rw e
-mark-at (suc k) m (suc i) h =
-    let n : 1 + i ≡ suc i = omega arith in
-    mark-at k (m / 2) i (omega arith) ∙ ap (λ (x : ℕ). eqb (x % 2) 1) (rw n at (shr-shr m 1 i))
+first-le : (k : ℕ) (bs : List Bool) → firstFalse k bs ≤ k
+unfolding firstFalse
+first-le k [] = omega arith
+first-le zero (b ∷ bs) = omega arith
+first-le (suc k) (true ∷ bs) = omega (arith, first-le k bs)
+first-le (suc k) (false ∷ bs) = omega arith
 
--- the lowest digit of the first places that are not marked, and the digits above it
-lows : (X Y m : ℕ) → 0 < X → m < Y * 2
-    → (bitAnd (X * 2 - 1) (Y * 2 - 1 - m) % 2 ≡ 1 - m % 2) × (bitAnd (X * 2 - 1) (Y * 2 - 1 - m) / 2 ≡ bitAnd (X - 1) (Y - 1 - m / 2))
-lows X Y m one b =
-    let a₀ : (X * 2 - 1) / 2 ≡ X - 1 = omega arith in
-    let a₁ : (X * 2 - 1) % 2 ≡ 1 = omega arith in
-    let b₀ : (Y * 2 - 1 - m) / 2 ≡ Y - 1 - m / 2 = omega arith in
-    let b₁ : (Y * 2 - 1 - m) % 2 ≡ 1 - m % 2 = omega arith in
-    let s = rw (a₀, a₁, b₀, b₁) at (and-step (X * 2 - 1) (Y * 2 - 1 - m)) in
-    (omega arith, omega arith)
+first-none : (k : ℕ) (bs : List Bool) → length bs ≤ k → firstFalse k bs ≡ k → (i : ℕ) → i < length bs → getD bs i false ≡ true
+unfolding firstFalse
+first-none k [] h e i l = let z : ⊥ = omega arith in absurd z
+first-none zero (b ∷ bs) h e i l = let z : ⊥ = omega arith in absurd z
+first-none (suc k) (true ∷ bs) h e zero l = refl
+first-none (suc k) (true ∷ bs) h e (suc i) l = first-none k bs (omega arith) (omega arith) i (omega arith)
+first-none (suc k) (false ∷ bs) h e i l = let z : ⊥ = omega arith in absurd z
 
-under-mark : (m t : ℕ) → under (1 - m % 2) t ≡ cond (eqb (m % 2) 1) (suc t) zero
-under-mark m t = go (digit m)
-  where
-    go : (m % 2 ≡ 0) ⊎ (m % 2 ≡ 1) → under (1 - m % 2) t ≡ cond (eqb (m % 2) 1) (suc t) zero
-    go (inl e) = rw e
-    go (inr e) = rw e
+first-all : (k : ℕ) (bs : List Bool) → length bs ≤ k → ((i : ℕ) → i < length bs → getD bs i false ≡ true) → firstFalse k bs ≡ k
+unfolding firstFalse
+first-all k [] h f = refl
+first-all zero (b ∷ bs) h f = let z : ⊥ = omega arith in absurd z
+first-all (suc k) (true ∷ bs) h f = ap suc (first-all k bs (omega arith) (λ i l. f (suc i) (omega arith)))
+first-all (suc k) (false ∷ bs) h f = let z : _≡_ {A = ℕ} 0 1 = cc (f 0 (omega arith)) in omega arith
 
-place-turn : (x m t k : ℕ) → (x % 2 ≡ 1 - m % 2) → (trailingZeros k (x / 2) ≡ t) → trailingZeros (suc k) x ≡ cond (eqb (m % 2) 1) (suc t) zero
-unfolding trailingZeros
-place-turn x m t k e f = rw (e, f) (under-mark m t)
+has-place : (k : ℕ) → k < 16 → hasMark (11 + k) ≡ true
+unfolding hasMark
+has-place k h = simp (le-leb 11 (11 + k) (omega arith), le-leb (11 + k) 26 (omega arith))
 
--- the lowest set bit of the first n places that are not marked
-pub lowest : (k n m : ℕ) → n ≤ k → m < 2 ^ k → trailingZeros k (bitAnd (2 ^ n - 1) (2 ^ k - 1 - m)) ≡ firstFalse k (take n (marksOf k m))
-unfolding marksOf firstFalse
-lowest k zero m h b = trailing-of-zero k
-lowest zero (suc n) m h b = let z : ⊥ = omega arith in absurd z
-lowest (suc k) (suc n) m h b =
-    let g = rw (pow-suc 2 k) at b in
-    let l = lows (2 ^ n) (2 ^ k) m (pow-pos n) g in
-    rw (pow-suc 2 n, pow-suc 2 k) (place-turn _ m _ k (l .0) (rw (l .1) (lowest k n (m / 2) (omega arith) (halved k m b))))
+mark-of : (m k : ℕ) → k < 16 → isMarkedOf m (11 + k) ≡ getD (marksOf 16 m) k false
+unfolding isMarkedOf
+mark-of m k h = let e : 11 + k - 11 ≡ k = omega arith in simp (has-place k h, e)
+
+-- 0 says that none of the first n is missing
+pub none-missing : (m n : ℕ) → lowestMissingOf m n ≡ 0 → (k : ℕ) → k < n → k < 16 → isMarkedOf m (11 + k) ≡ true
+unfolding lowestMissingOf
+none-missing m n e k h l =
+    let bs = take n (marksOf 16 m) in
+    let p = firstFalse 16 bs in
+    let s = length-marks 16 m in
+    let t = length-take n (marksOf 16 m) in
+    let u = first-le 16 bs in
+    let full : p ≡ 16 = by (ltb p 16) (λ f. let z : 11 + p ≡ 0 = simp f at e in omega arith) (λ f. let z = ltb-false p 16 f in omega arith) in
+    mark-of m k l ∙ sym (getD-take n (marksOf 16 m) k false h) ∙ first-none 16 bs (omega arith) full k (omega arith)
+
+pub missing-none : (m n : ℕ) → ((k : ℕ) → k < n → k < 16 → isMarkedOf m (11 + k) ≡ true) → lowestMissingOf m n ≡ 0
+unfolding lowestMissingOf
+missing-none m n f =
+    let bs = take n (marksOf 16 m) in
+    let s = length-marks 16 m in
+    let t = length-take n (marksOf 16 m) in
+    rw (first-all 16 bs (omega arith) (λ i l. getD-take n (marksOf 16 m) i false (omega arith) ∙ sym (mark-of m i (omega arith)) ∙ f i (omega arith) (omega arith)))
+
+first-in : (k : ℕ) (bs : List Bool) → firstFalse k bs < k → (firstFalse k bs < length bs) × (getD bs (firstFalse k bs) false ≡ false)
+unfolding firstFalse
+first-in k [] h = let z : ⊥ = omega arith in absurd z
+first-in zero (b ∷ bs) h = let z : ⊥ = omega arith in absurd z
+first-in (suc k) (true ∷ bs) h = let r = first-in k bs (omega arith) in (omega arith, r .1)
+first-in (suc k) (false ∷ bs) h = (omega arith, refl)
+
+-- another answer is a subaddress of the first n that has no mark
+pub missing-is : (m n : ℕ) → (lowestMissingOf m n ≡ 0 → ⊥) → (lowestMissingOf m n < 11 + n) × (lowestMissingOf m n ≤ 26) × (isMarkedOf m (lowestMissingOf m n) ≡ false)
+unfolding lowestMissingOf
+missing-is m n ne =
+    let bs = take n (marksOf 16 m) in
+    let p = firstFalse 16 bs in
+    let t = length-take n (marksOf 16 m) in
+    let lt : p < 16 = by (ltb p 16) (λ f. ltb-true p 16 f) (λ f. absurd (ne (simp f))) in
+    let r = first-in 16 bs lt in
+    let same : getD (marksOf 16 m) p false ≡ false = sym (getD-take n (marksOf 16 m) p false (omega arith)) ∙ r .1 in
+    rw (lt-ltb p 16 lt) (omega arith, omega arith, mark-of m p lt ∙ same)
+
+first-below : (k : ℕ) (bs : List Bool) → firstFalse k bs < k → (i : ℕ) → i < firstFalse k bs → getD bs i false ≡ true
+unfolding firstFalse
+first-below k [] h i l = let z : ⊥ = omega arith in absurd z
+first-below zero (b ∷ bs) h i l = let z : ⊥ = omega arith in absurd z
+first-below (suc k) (true ∷ bs) h zero l = refl
+first-below (suc k) (true ∷ bs) h (suc i) l = first-below k bs (omega arith) i (omega arith)
+first-below (suc k) (false ∷ bs) h i l = let z : ⊥ = omega arith in absurd z
+
+-- and each below it has one
+pub missing-lowest : (m n : ℕ) → (lowestMissingOf m n ≡ 0 → ⊥) → (k : ℕ) → 11 + k < lowestMissingOf m n → isMarkedOf m (11 + k) ≡ true
+unfolding lowestMissingOf
+missing-lowest m n ne k h =
+    let bs = take n (marksOf 16 m) in
+    let p = firstFalse 16 bs in
+    let t = length-take n (marksOf 16 m) in
+    let lt : p < 16 = by (ltb p 16) (λ f. ltb-true p 16 f) (λ f. absurd (ne (simp f))) in
+    let g : 11 + k < 11 + p = rw (lt-ltb p 16 lt) at h in
+    let r = first-in 16 bs lt in
+    mark-of m k (omega arith) ∙ sym (getD-take n (marksOf 16 m) k false (omega arith)) ∙ first-below 16 bs lt k (omega arith)

@@ -4,15 +4,16 @@ use mathlib.Core.Path.{_≡_, refl, sym, ap, _∙_}
 use mathlib.Core.List.{List, []}
 use Prim.Native.Nat.{ℕ, min, _+_, _-_, _*_, _/_, _≤_, _<_}
 use native.Mathlib.Omega.{arith}
-use lib.ListN.{length, take, drop, getD, length-take, length-drop, drop-of-length-le}
+use lib.ListN.{length-replicate, length, take, drop, getD, length-take, length-drop, drop-of-length-le}
 use lib.Seq.{sets, sets-eq, length-sets, take-all, take-append-le, drop-drop}
 use Rattle.words.specs.Bytes.{bytesOf, wordsOf}
 use Rattle.words.specs.Cutting.{partOf}
 use Rattle.stores.specs.Writing.{roomOf, writtenOf, messageWrittenOf}
 use Rattle.stores.specs.Reading.{readOf, messageReadOf}
-use Rattle.stores.specs.Copying.{storedOf, copiedOf}
-use Rattle.stores.proofs.Runs.{turn-many, take-least, drop-take, take-take-min}
-use Rattle.stores.proofs.Bytes.{length-bytesOf, length-wordsOf, words-take, words-drop, bytes-take, bytes-drop, bytes-words}
+use Rattle.stores.specs.Copying.{storedOf, copiedOf, zerosOf}
+use Rattle.stores.proofs.Runs.{take-stored, turn-many, take-least, drop-take, take-take-min}
+use Rattle.stores.proofs.Bytes.{words-take, words-drop, bytes-take, bytes-drop, bytes-back}
+use Rattle.words.proofs.Bytes.{words-bytes, length-bytesOf, length-wordsOf}
 
 -- ---- lengths stay
 
@@ -39,6 +40,10 @@ length-stored store block = length-written store (wordsOf block)
 pub length-copied : (src dst : List ℕ) (n : ℕ) → length (copiedOf src dst n) ≡ length dst
 unfolding copiedOf
 length-copied src dst n = simp length-sets
+
+pub length-zeros : (n : ℕ) → length (zerosOf n) ≡ n
+unfolding zerosOf
+length-zeros n = length-replicate {A = ℕ} n 0
 
 -- ---- the part that is message k
 
@@ -87,6 +92,15 @@ carry-turn s us k =
     let n : 64 * (k + 1) ≡ 64 * k + 64 = omega arith in
     rw (n, ← drop-drop 64 (64 * k) us) (turn-many s (drop (64 * k) us) (64 * k) 64)
 
+-- a message that fits its place is read back from it
+pub written-back : (store : List ℕ) (at : ℕ) (words : List ℕ) → length words ≤ 32 → at + 2 * length words ≤ length store
+    → wordsOf (take (2 * length words) (drop at (messageWrittenOf store at words))) ≡ words
+unfolding messageWrittenOf roomOf
+written-back store at words short fits =
+    let n = length-bytesOf words in
+    let all = take-all (min 64 (length store - at) / 2) words (omega arith) in
+    rw (all, ← n, take-stored store (bytesOf words) at (omega arith)) (words-bytes words)
+
 -- a block that fits is found again at the store's start
 pub stored-back : (store block : List ℕ) → length block ≤ length store → length store ≡ 2 * (length store / 2) → ((i : ℕ) → getD block i 0 < 256)
     → take (length block) (storedOf store block) ≡ block
@@ -95,4 +109,4 @@ stored-back store block h even f =
     let n = length-wordsOf block in
     let m = length-bytesOf (wordsOf block) in
     rw (take-all (length store / 2) (wordsOf block) (omega arith), sets-eq (bytesOf (wordsOf block)) store 0 (omega arith))
-    (take-append-le (length block) (bytesOf (wordsOf block)) _ (omega arith) ∙ bytes-words block f)
+    (take-append-le (length block) (bytesOf (wordsOf block)) _ (omega arith) ∙ bytes-back block f)

@@ -1,13 +1,13 @@
 -- Runs of stores in a list: a loop's turn, a part that was lent, what a run fills.
 -- Assumes nothing.
 use mathlib.Core.Path.{_≡_, refl, sym, ap, _∙_}
-use mathlib.Core.List.{List, [], _∷_, _++_, append-nil}
+use mathlib.Core.List.{List, [], _∷_, _++_, append-nil, append-assoc}
 use Prim.Native.Nat.{ℕ, zero, suc, min, _+_, _-_, _*_, _≤_, _<_}
 use native.Mathlib.Numerals.{add-one}
 use native.Mathlib.Omega.{arith}
 use native.Mathlib.Nat.{zero-add, add-zero, suc-add, add-suc}
 use lib.ListN.{length, take, drop, getD, set, length-set, length-drop, take-append-drop, drop-of-length-le}
-use lib.Seq.{drop-cons, sets, sets-eq, length-sets, take-at, set-append-left, set-out, length-take-le, take-nil}
+use lib.Seq.{drop-cons, sets, sets-eq, length-sets, take-at, drop-at, set-append-left, set-out, length-take-le, take-nil, getD-drop, drop-drop, drop-set-lt, take-set-le}
 use borrow.Rule.Slice.PartMut.{putMid}
 
 -- ---- a loop that stores vs one by one: what is left to store, from here on, gives the same
@@ -35,6 +35,16 @@ done l vs i h = rw (drop-of-length-le vs {i = i} h)
 pub last : (l vs : List ℕ) (i v : ℕ) → suc i ≡ length vs → v ≡ getD vs i 0 → set l i v ≡ sets l i (drop i vs)
 last l vs i v h e = sym (done (set l i v) vs (i + 1) (omega arith)) ∙ turn l vs i v (omega arith) e
 
+-- a run in place: what is not yet stored over is as it was
+pub same-here : (l m : List ℕ) (i : ℕ) → drop i l ≡ drop i m → getD l i 0 ≡ getD m i 0
+same-here l m i e =
+    let z : i + 0 ≡ i = omega arith in
+    rw z at (sym (getD-drop i l 0 0) ∙ ap (λ (r : List ℕ). getD r 0 0) e ∙ getD-drop i m 0 0)
+
+pub same-next : (l m : List ℕ) (i v : ℕ) → drop i l ≡ drop i m → drop (i + 1) (set l i v) ≡ drop (i + 1) m
+same-next l m i v e =
+    drop-set-lt (i + 1) l i v (omega arith) ∙ sym (drop-drop 1 i l) ∙ ap (λ (r : List ℕ). drop 1 r) e ∙ drop-drop 1 i m
+
 -- ---- what a run leaves
 
 -- past the end nothing is stored
@@ -48,11 +58,35 @@ sets-cut l vs i n h =
     let e = length-sets l i (take n vs) in
     sym (sets-out (sets l i (take n vs)) (drop n vs) (i + n) (omega arith)) ∙ turn-many l vs i n
 
+-- what stands before a run, and after it, stays
+pub take-before : (l vs : List ℕ) (i n : ℕ) → n ≤ i → take n (sets l i vs) ≡ take n l
+take-before l [] i n h = refl
+take-before l (v ∷ vs) i n h = take-before (set l i v) vs (suc i) n (omega arith) ∙ take-set-le n l i v h
+
+pub drop-after : (l vs : List ℕ) (i n : ℕ) → i + length vs ≤ n → drop n (sets l i vs) ≡ drop n l
+drop-after l [] i n h = refl
+drop-after l (v ∷ vs) i n h = drop-after (set l i v) vs (suc i) n (omega arith) ∙ drop-set-lt n l i v (omega arith)
+
+-- what a run stored stands where it was stored
+pub take-stored : (l vs : List ℕ) (i : ℕ) → i + length vs ≤ length l → take (length vs) (drop i (sets l i vs)) ≡ vs
+take-stored l vs i h =
+    let n = length-take-le i l (omega arith) in
+    rw (sets-eq vs l i h, append-assoc (take i l) vs (drop (i + length vs) l), drop-at (take i l) (vs ++ drop (i + length vs) l) i n)
+    (take-at vs (drop (i + length vs) l) (length vs) refl)
+
 -- a run that fills the list
 pub sets-all : (l vs : List ℕ) → length vs ≡ length l → sets l 0 vs ≡ vs
 sets-all l vs e =
     let z : drop (0 + length vs) l ≡ [] = drop-of-length-le l {i = 0 + length vs} (omega arith) in
     sets-eq vs l 0 (omega arith) ∙ rw z (append-nil vs)
+
+-- a second run over the same places
+pub sets-again : (l us vs : List ℕ) → length us ≡ length vs → length vs ≤ length l → sets (sets l 0 us) 0 vs ≡ sets l 0 vs
+sets-again l us vs e h =
+    let n = length-sets l 0 us in
+    let past : drop (0 + length vs) (sets l 0 us) ≡ drop (0 + length vs) l =
+    rw (sets-eq us l 0 (omega arith), e) (drop-at us (drop (0 + length vs) l) (0 + length vs) (omega arith)) in
+    sets-eq vs (sets l 0 us) 0 (omega arith) ∙ rw past (sym (sets-eq vs l 0 (omega arith)))
 
 -- the start of a list that a run filled
 pub take-sets : (l vs : List ℕ) (n : ℕ) → n ≡ length vs → n ≤ length l → take n (sets l 0 vs) ≡ vs

@@ -3,8 +3,8 @@ use crate::reader::read_message;
 use crate::sizes::least;
 use crate::writer::write_message;
 ghost use mathlib.Core.Path.{_≡_};
-ghost use Prim.Native.Nat.{_*_, _<_, _≤_};
-ghost use lib.ListN.{length, take, replicate};
+ghost use Prim.Native.Nat.{_*_, _≤_};
+ghost use lib.ListN.{length};
 ghost use lib.Seq.{sets};
 ghost use Rattle.words.specs.Bytes.{wordsOf};
 ghost use Rattle.words.specs.Cutting.{partOf};
@@ -33,7 +33,7 @@ pub fn store_block(store: &mut [u8], block: &[u8])
     }
 }
 
-// All of src to the start of dst, as much as fits.
+// All of src to the start of dst.
 fn copy_all(src: &[u8], dst: &mut [u8])
     requires { ⌜ length (now src) ≤ length (now dst) ⌝ }
     ensures { λ _. ⌜ now (dst .exit) ≡ sets (now (dst .entry)) 0 (now (src .entry)) ⌝ }

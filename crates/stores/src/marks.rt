@@ -56,6 +56,7 @@ fn missing_place(marks: u16, n: u16) -> u32
     u16::trailing_zeros(needed_bits(n) & !marks)
 }
 
+// n, or 16 where that is less.
 fn capped(n: u16) -> u16
     ensures { λ r. ⌜ r ≡ min n 16 ⌝ }
 {

@@ -13,6 +13,7 @@ pub fn word(high: u8, low: u8) -> u16
     (high as u16) * 256 + (low as u16)
 }
 
+// The first byte of a word, and the second.
 pub fn high(word: u16) -> u8
     ensures { λ r. ⌜ r ≡ word / 256 ⌝ }
 {
@@ -26,12 +27,13 @@ pub fn low(word: u16) -> u8
 }
 
 // The two bytes of a word, exchanged.
-fn swap(word: u16) -> u16
+pub fn swap(word: u16) -> u16
     ensures { λ r. ⌜ r ≡ swapOf word ⌝ }
 {
     (word % 256) * 256 + word / 256
 }
 
+// Each word with its two bytes exchanged.
 fn swapped(words: [u16; 32]) -> [u16; 32]
     ensures { λ r. ⌜ r ≡ map swapOf words ⌝ }
 {
@@ -44,7 +46,7 @@ fn swapped(words: [u16; 32]) -> [u16; 32]
     out
 }
 
-// Low byte first is how memory has a word, so this is no work at all.
+// The bytes of words, low byte first: how memory has them, so this is no work at all.
 fn low_bytes(words: [u16; 32]) -> [u8; 64]
     ensures { λ r. ⌜ r ≡ lowBytesOf words ⌝ }
 {
@@ -59,7 +61,7 @@ fn low_bytes(words: [u16; 32]) -> [u8; 64]
     out
 }
 
-// The words of which the bytes are, each with its two bytes exchanged.
+// The words of bytes, each with its two bytes exchanged.
 fn low_words(bytes: [u8; 64]) -> [u16; 32]
     ensures { λ r. ⌜ map swapOf r ≡ wordsOf bytes ⌝ }
 {

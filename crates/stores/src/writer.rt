@@ -4,12 +4,13 @@ use crate::whole::bytes_of;
 use crate::whole::high;
 use crate::whole::low;
 ghost use mathlib.Core.Path.{_≡_};
-ghost use Prim.Native.Nat.{min, _*_, _/_, _≤_};
+ghost use Prim.Native.Nat.{_*_, _≤_};
 ghost use lib.ListN.{length, take};
 ghost use lib.Seq.{sets};
 ghost use Rattle.words.specs.Bytes.{bytesOf};
 ghost use Rattle.stores.specs.Writing.{writtenOf, wordsWrittenOf, messageWrittenOf, messageWordsWrittenOf};
 
+// The words of a whole message, in a local.
 fn load_words(words: &[u16]) -> [u16; 32]
     requires { ⌜ 32 ≤ length (now words) ⌝ }
     ensures { λ r. ⌜ r ≡ take 32 (now (words .entry)) ⌝ }
@@ -23,6 +24,7 @@ fn load_words(words: &[u16]) -> [u16; 32]
     out
 }
 
+// The bytes of a whole message, into the start of part.
 fn put_bytes(part: &mut [u8], bytes: [u8; 64])
     requires { ⌜ 64 ≤ length (now part) ⌝ }
     ensures { λ _. ⌜ now (part .exit) ≡ sets (now (part .entry)) 0 bytes ⌝ }

@@ -34,12 +34,13 @@ same-length c = search needs
 returns : tie.Need-returns
 unfolding dataOf storeAfter
 returns c = simp (
-    c .accept .ensures,
-    c .before .noted-words .ensures,
-    c .before .before .before .before .append .ensures,
-    ne-eqb _ _ (c .before .before .before .before .before .before .if1 .taken),
-    c .before .before .before .before .before .before .before .before .enum-told .given .1,
-    ← c .before .before .before .before .before .before .before .before .before .before .answer .ensures) (refl, refl)
+  c .accept .ensures,
+  c .before .noted-words .ensures,
+  c .before .before .before .before .append .ensures,
+  ne-eqb _ _ (c .before .before .before .before .before .before .if1 .taken),
+  c .before .before .before .before .before .before .before .before .enum-told .given .1,
+  ← c .before .before .before .before .before .before .before .before .before .before .answer .ensures,
+) (refl, refl)
 
 place-requires : tie.Need-place-requires
 place-requires c κs = omega arith
@@ -53,9 +54,10 @@ accept-requires-2 c κs = search needs
 returns-2 : tie.Need-returns-2
 unfolding dataOf storeAfter
 returns-2 c = simp (
-    c .refuse .ensures,
-    c .before .before .answer2 .given .1,
-    ← c .before .before .before .before .answer .ensures) (refl, refl)
+  c .refuse .ensures,
+  c .before .before .answer2 .given .1,
+  ← c .before .before .before .before .answer .ensures,
+) (refl, refl)
 
 same-length-2 : tie.Need-same-length-2
 same-length-2 c = search needs
@@ -63,12 +65,13 @@ same-length-2 c = search needs
 returns-3 : tie.Need-returns-3
 unfolding dataOf storeAfter
 returns-3 c = simp (
-    c .accept2 .ensures,
-    c .before .noted-place .ensures,
-    c .before .before .before .before .place .ensures,
-    eq-eqb _ _ (c .before .before .before .before .before .before .if1 .left),
-    c .before .before .before .before .before .before .before .before .enum-told .given .1,
-    ← c .before .before .before .before .before .before .before .before .before .before .answer .ensures) (refl, refl)
+  c .accept2 .ensures,
+  c .before .noted-place .ensures,
+  c .before .before .before .before .place .ensures,
+  eq-eqb _ _ (c .before .before .before .before .before .before .if1 .left),
+  c .before .before .before .before .before .before .before .before .enum-told .given .1,
+  ← c .before .before .before .before .before .before .before .before .before .before .answer .ensures,
+) (refl, refl)
 
 pub data-spec : {M : Type 1} → statement M
 data-spec =

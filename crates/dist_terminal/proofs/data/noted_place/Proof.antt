@@ -13,8 +13,9 @@ with-marks-requires c κs = search needs
 
 returns : tie.Need-returns
 returns c = simp (
-    c .with-marks .ensures,
-    c .before .marked-with .ensures)
+  c .with-marks .ensures,
+  c .before .marked-with .ensures,
+)
 
 pub noted-place-spec : {M : Type 1} → statement M
 noted-place-spec =

@@ -10,8 +10,9 @@ with-marks-requires c κs = search needs
 
 returns : tie.Need-returns
 returns c = simp (
-    c .with-marks .ensures,
-    ← c .before .received-after .ensures)
+  c .with-marks .ensures,
+  ← c .before .received-after .ensures,
+)
 
 pub noted-words-spec : {M : Type 1} → statement M
 noted-words-spec = tie.close (tie.spec received-after-requires with-marks-requires returns)

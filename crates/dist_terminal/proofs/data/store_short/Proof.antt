@@ -9,8 +9,9 @@ is-configured-requires c κs = search needs
 returns : tie.Need-returns
 unfolding storeShort
 returns c = simp (
-    c .if1 .taken,
-    ← c .before .is-configured .ensures)
+  c .if1 .taken,
+  ← c .before .is-configured .ensures,
+)
 
 message-store-requires : tie.Need-message-store-requires
 message-store-requires c κs = search needs
@@ -18,9 +19,10 @@ message-store-requires c κs = search needs
 returns-2 : tie.Need-returns-2
 unfolding storeShort
 returns-2 c = simp (
-    ← c .message-store .ensures,
-    c .before .if1 .left,
-    ← c .before .before .is-configured .ensures)
+  ← c .message-store .ensures,
+  c .before .if1 .left,
+  ← c .before .before .is-configured .ensures,
+)
 
 pub store-short-spec : {M : Type 1} → statement M
 store-short-spec =

@@ -20,9 +20,10 @@ places-met-requires c κs = search needs
 returns-2 : tie.Need-returns-2
 unfolding lengthMet
 returns-2 c = simp (
-    ← c .places-met .ensures,
-    ← c .before .messages .ensures,
-    eq-eqb _ _ (c .before .before .if1 .left))
+  ← c .places-met .ensures,
+  ← c .before .messages .ensures,
+  eq-eqb _ _ (c .before .before .if1 .left),
+)
 
 pub length-met-spec : {M : Type 1} → statement M
 length-met-spec =

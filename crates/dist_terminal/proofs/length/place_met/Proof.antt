@@ -7,8 +7,9 @@ use Rattle.dist_terminal.proofs.length.place_met.Tie as tie
 returns : tie.Need-returns
 unfolding placeMet
 returns c = simp (
-    le-leb _ _ (c .if1 .taken),
-    le-ltb _ _ (c .if1 .taken))
+  le-leb _ _ (c .if1 .taken),
+  le-ltb _ _ (c .if1 .taken),
+)
 
 cast-subaddress : tie.Need-cast-subaddress
 cast-subaddress c = search needs
@@ -22,10 +23,11 @@ is-marked-requires c κs = search needs
 returns-2 : tie.Need-returns-2
 unfolding placeMet
 returns-2 c = simp (
-    c .if2 .taken,
-    ← c .before .is-marked .ensures,
-    lt-ltb _ _ (c .before .before .if1 .left),
-    lt-leb _ _ (c .before .before .if1 .left))
+  c .if2 .taken,
+  ← c .before .is-marked .ensures,
+  lt-ltb _ _ (c .before .before .if1 .left),
+  lt-leb _ _ (c .before .before .if1 .left),
+)
 
 array-read-result : tie.Need-array-read-result
 array-read-result c = search needs
@@ -39,11 +41,12 @@ message-words-requires c κs = search needs
 returns-3 : tie.Need-returns-3
 unfolding placeMet
 returns-3 c = simp (
-    ← c .message-words .ensures,
-    c .before .before .if2 .left,
-    ← c .before .before .before .is-marked .ensures,
-    lt-ltb _ _ (c .before .before .before .before .if1 .left),
-    lt-leb _ _ (c .before .before .before .before .if1 .left))
+  ← c .message-words .ensures,
+  c .before .before .if2 .left,
+  ← c .before .before .before .is-marked .ensures,
+  lt-ltb _ _ (c .before .before .before .before .if1 .left),
+  lt-leb _ _ (c .before .before .before .before .if1 .left),
+)
 
 pub place-met-spec : {M : Type 1} → statement M
 place-met-spec =

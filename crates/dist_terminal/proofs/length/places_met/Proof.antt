@@ -19,10 +19,11 @@ place-met-requires c κs = omega arith
 returns : tie.Need-returns Inv-loop μ-loop
 unfolding placesMet
 returns c = simp (
-    c .if1 .taken,
-    ← c .before .place-met .ensures,
-    lt-ltb _ _ (c .before .before .loop-test .taken),
-    lt-leb _ _ (c .before .before .loop-test .taken))
+  c .if1 .taken,
+  ← c .before .place-met .ensures,
+  lt-ltb _ _ (c .before .before .loop-test .taken),
+  lt-leb _ _ (c .before .before .loop-test .taken),
+)
 
 add-k : tie.Need-add-k Inv-loop μ-loop
 add-k c = omega arith
@@ -36,8 +37,9 @@ loop-again c = omega arith
 returns-2 : tie.Need-returns-2 Inv-loop μ-loop
 unfolding placesMet
 returns-2 c = simp (
-    le-leb _ _ (c .loop-test .left),
-    le-ltb _ _ (c .loop-test .left))
+  le-leb _ _ (c .loop-test .left),
+  le-ltb _ _ (c .loop-test .left),
+)
 
 pub places-met-spec : {M : Type 1} → statement M
 places-met-spec =

@@ -10,8 +10,9 @@ is-configured-requires c κs = search needs
 returns : tie.Need-returns
 unfolding questionOf
 returns c = simp (
-    c .if1 .taken,
-    ← c .before .is-configured .ensures)
+  c .if1 .taken,
+  ← c .before .is-configured .ensures,
+)
 
 size-answer-requires : tie.Need-size-answer-requires
 size-answer-requires c κs = search needs
@@ -25,11 +26,12 @@ enum-told c = search needs
 returns-2 : tie.Need-returns-2
 unfolding questionOf
 returns-2 c = simp (
-    ne-eqb _ _ (c .if2 .taken),
-    c .before .before .enum-told .given .1,
-    ← c .before .before .before .before .size-answer .ensures,
-    c .before .before .before .before .before .if1 .left,
-    ← c .before .before .before .before .before .before .is-configured .ensures)
+  ne-eqb _ _ (c .if2 .taken),
+  c .before .before .enum-told .given .1,
+  ← c .before .before .before .before .size-answer .ensures,
+  c .before .before .before .before .before .if1 .left,
+  ← c .before .before .before .before .before .before .is-configured .ensures,
+)
 
 cast-messages : tie.Need-cast-messages
 cast-messages c = search needs
@@ -46,22 +48,24 @@ lowest-missing-requires c κs = search needs
 returns-3 : tie.Need-returns-3
 unfolding questionOf
 returns-3 c = simp (
-    c .before .answer .given .1,
-    ← c .before .before .before .size-answer .ensures,
-    c .before .before .before .before .if1 .left,
-    ← c .before .before .before .before .before .is-configured .ensures)
+  c .before .answer .given .1,
+  ← c .before .before .before .size-answer .ensures,
+  c .before .before .before .before .if1 .left,
+  ← c .before .before .before .before .before .is-configured .ensures,
+)
 
 returns-4 : tie.Need-returns-4
 unfolding questionOf
 returns-4 c = simp (
-    ← c .lowest-missing .ensures,
-    c .before .marked .ensures,
-    ← c .before .before .messages .ensures,
-    eq-eqb _ _ (c .before .before .before .if2 .left),
-    c .before .before .before .before .before .enum-told .given .1,
-    ← c .before .before .before .before .before .before .before .size-answer .ensures,
-    c .before .before .before .before .before .before .before .before .if1 .left,
-    ← c .before .before .before .before .before .before .before .before .before .is-configured .ensures)
+  ← c .lowest-missing .ensures,
+  c .before .marked .ensures,
+  ← c .before .before .messages .ensures,
+  eq-eqb _ _ (c .before .before .before .if2 .left),
+  c .before .before .before .before .before .enum-told .given .1,
+  ← c .before .before .before .before .before .before .before .size-answer .ensures,
+  c .before .before .before .before .before .before .before .before .if1 .left,
+  ← c .before .before .before .before .before .before .before .before .before .is-configured .ensures,
+)
 
 pub question-of-spec : {M : Type 1} → statement M
 question-of-spec =

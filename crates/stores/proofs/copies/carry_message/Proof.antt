@@ -4,7 +4,7 @@ use Rattle.words.specs.Bytes.{wordsOf}
 use Rattle.words.specs.Cutting.{partOf}
 use Rattle.stores.specs.Reading.{readOf, wordsReadOf, messageReadOf, messageWordsReadOf}
 use Rattle.stores.proofs.Runs.{take-sets}
-use Rattle.stores.proofs.Bytes.{length-wordsOf}
+use Rattle.words.proofs.Bytes.{length-wordsOf}
 use borrow.Author.Needs.{needs}
 use native.Mathlib.Omega.{arith}
 use mathlib.Core.Path.{_≡_}

@@ -4,7 +4,7 @@ use Rattle.words.specs.Bytes.{bytesOf, wordsOf}
 use Rattle.stores.specs.Writing.{writtenOf}
 use Rattle.stores.specs.Copying.{storedOf}
 use Rattle.stores.proofs.Runs.{done}
-use Rattle.stores.proofs.Bytes.{length-bytesOf, length-wordsOf}
+use Rattle.words.proofs.Bytes.{length-bytesOf, length-wordsOf}
 use Rattle.stores.proofs.Messages.{carried, carry-turn}
 use borrow.Author.Needs.{needs}
 use native.Mathlib.Omega.{arith}

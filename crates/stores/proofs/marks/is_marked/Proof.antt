@@ -1,6 +1,6 @@
 use borrow.Author.Tests.{lt-leb, le-leb}
 use Rattle.stores.specs.Marks.{isMarkedOf, hasMark}
-use Rattle.stores.proofs.Marking.{mark-at}
+use Rattle.stores.proofs.Digits.{mark-at}
 use borrow.Author.Needs.{needs}
 use native.Mathlib.Omega.{arith}
 use mathlib.Core.Path.{sym}

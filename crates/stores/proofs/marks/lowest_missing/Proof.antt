@@ -1,6 +1,6 @@
 use borrow.Author.Tests.{lt-ltb, le-ltb}
 use Rattle.stores.specs.Marks.{marksOf, firstFalse, lowestMissingOf}
-use Rattle.stores.proofs.Marking.{length-marks}
+use Rattle.stores.proofs.Digits.{length-marks}
 use Rattle.stores.proofs.Runs.{take-least}
 use borrow.Author.Needs.{needs}
 use native.Mathlib.Omega.{arith}

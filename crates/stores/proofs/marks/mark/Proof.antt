@@ -3,7 +3,7 @@ use Prim.Native.Nat.{_^_}
 use lib.Bits.{bitOr, or-lt}
 use lib.Pow.{pow-lt}
 use Rattle.stores.specs.Marks.{markOf, hasMark}
-use Rattle.stores.proofs.Marking.{bit-is, or-marks, number-marks}
+use Rattle.stores.proofs.Digits.{bit-is, or-marks, number-marks}
 use borrow.Author.Needs.{needs}
 use native.Mathlib.Omega.{arith}
 use mathlib.Core.Path.{sym}

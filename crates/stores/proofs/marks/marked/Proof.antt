@@ -1,6 +1,6 @@
 use lib.Count.{ones-le}
 use Rattle.stores.specs.Marks.{markedOf}
-use Rattle.stores.proofs.Marking.{ones-trues}
+use Rattle.stores.proofs.Digits.{ones-trues}
 use native.Mathlib.Omega.{arith}
 use Rattle.stores.proofs.marks.marked.Statement.{statement}
 use Rattle.stores.proofs.marks.marked.Tie as tie

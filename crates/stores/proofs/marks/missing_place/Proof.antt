@@ -1,4 +1,4 @@
-use Rattle.stores.proofs.Marking.{lowest}
+use Rattle.stores.proofs.Digits.{lowest}
 use borrow.Author.Needs.{needs}
 use Rattle.stores.proofs.marks.missing_place.Statement.{statement}
 use Rattle.stores.proofs.marks.missing_place.Tie as tie

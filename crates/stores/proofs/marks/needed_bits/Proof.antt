@@ -1,5 +1,5 @@
 use lib.Pow.{pow-pos}
-use Rattle.stores.proofs.Marking.{bit-is}
+use Rattle.stores.proofs.Digits.{bit-is}
 use borrow.Author.Needs.{needs}
 use native.Mathlib.Omega.{arith}
 use Rattle.stores.proofs.marks.needed_bits.Statement.{statement}

@@ -3,7 +3,7 @@ use lib.ListN.{length-take, length-drop}
 use Rattle.words.specs.Bytes.{bytesOf}
 use Rattle.stores.specs.Writing.{writtenOf, wordsWrittenOf, roomOf, messageWrittenOf, messageWordsWrittenOf}
 use Rattle.stores.proofs.Runs.{part-back}
-use Rattle.stores.proofs.Bytes.{length-bytesOf}
+use Rattle.words.proofs.Bytes.{length-bytesOf}
 use borrow.Author.Needs.{needs}
 use native.Mathlib.Omega.{arith}
 use mathlib.Core.Path.{_≡_, refl, ap, _∙_}

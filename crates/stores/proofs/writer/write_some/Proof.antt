@@ -2,7 +2,8 @@ use Prim.Native.Nat.{_/_, _%_}
 use Rattle.stores.proofs.Runs.{turn-two, done}
 use lib.Seq.{length-take-le, getD-take}
 use Rattle.words.specs.Bytes.{bytesOf}
-use Rattle.stores.proofs.Bytes.{length-bytesOf, high-at, low-at}
+use Rattle.stores.proofs.Bytes.{high-at, low-at}
+use Rattle.words.proofs.Bytes.{length-bytesOf}
 use borrow.Author.Needs.{needs}
 use native.Mathlib.Omega.{arith}
 use mathlib.Core.Path.{_≡_, sym, ap, _∙_}
