@@ -1,8 +1,9 @@
 use borrow.Author.Tests.{eq-eqb, ne-eqb}
-use native.Mathlib.Omega.{arith}
+use Rattle.dist_terminal.specs.Data.{notedOf, placedOf}
+use Rattle.dist_terminal.proofs.Arriving.{arriving, place, room-of-one}
 use Rattle.dist_terminal.specs.Data.{dataOf}
 use Rattle.dist_terminal.specs.Data.{storeAfter}
-use mathlib.Core.Path.{refl}
+use mathlib.Core.Path.{refl, sym, _∙_}
 use borrow.Author.Needs.{needs}
 use Rattle.dist_terminal.proofs.data.data.Statement.{statement}
 use Rattle.dist_terminal.proofs.data.data.Tie as tie
@@ -20,10 +21,16 @@ enum-told : tie.Need-enum-told
 enum-told c = search needs
 
 append-requires : tie.Need-append-requires
-append-requires c κs = omega arith
+append-requires c κs =
+    let m = c .before .before .before .before .before in
+    let k = arriving _ _ _ _ (sym (m .answer .ensures) ∙ c .before .before .before .enum-told .given .1) in
+    (room-of-one _ _ (c .before .if1 .taken) (k .long), k .message .few)
 
 noted-words-requires : tie.Need-noted-words-requires
-noted-words-requires c κs = omega arith
+noted-words-requires c κs =
+    let m = c .before .before .before .before .before .before .before .before in
+    let k = arriving _ _ _ _ (sym (m .answer .ensures) ∙ c .before .before .before .before .before .before .enum-told .given .1) in
+    k .message .few
 
 accept-requires : tie.Need-accept-requires
 accept-requires c κs = search needs
@@ -32,7 +39,7 @@ same-length : tie.Need-same-length
 same-length c = search needs
 
 returns : tie.Need-returns
-unfolding dataOf storeAfter
+unfolding dataOf storeAfter notedOf placedOf
 returns c = simp (
   c .accept .ensures,
   c .before .noted-words .ensures,
@@ -43,10 +50,18 @@ returns c = simp (
 ) (refl, refl)
 
 place-requires : tie.Need-place-requires
-place-requires c κs = omega arith
+place-requires c κs =
+    let m = c .before .before .before .before .before in
+    let k = arriving _ _ _ _ (sym (m .answer .ensures) ∙ c .before .before .before .enum-told .given .1) in
+    let p = place _ _ _ _ (c .before .if1 .left) (k .long) (k .message) in
+    (p .from, (p .to, (p .room, k .message .few)))
 
 noted-place-requires : tie.Need-noted-place-requires
-noted-place-requires c κs = omega arith
+noted-place-requires c κs =
+    let m = c .before .before .before .before .before .before .before .before in
+    let k = arriving _ _ _ _ (sym (m .answer .ensures) ∙ c .before .before .before .before .before .before .enum-told .given .1) in
+    let p = place _ _ _ _ (c .before .before .before .before .if1 .left) (k .long) (k .message) in
+    (k .message .few, (p .from, p .to))
 
 accept-requires-2 : tie.Need-accept-requires-2
 accept-requires-2 c κs = search needs
@@ -63,7 +78,7 @@ same-length-2 : tie.Need-same-length-2
 same-length-2 c = search needs
 
 returns-3 : tie.Need-returns-3
-unfolding dataOf storeAfter
+unfolding dataOf storeAfter notedOf placedOf
 returns-3 c = simp (
   c .accept2 .ensures,
   c .before .noted-place .ensures,

@@ -1,4 +1,7 @@
 use borrow.Author.Needs.{needs}
+use native.Mathlib.Omega.{arith}
+use mathlib.Core.Path.{_≡_}
+use Prim.Native.Nat.{_%_}
 use Rattle.dist_terminal.proofs.data.noted_place.Statement.{statement}
 use Rattle.dist_terminal.proofs.data.noted_place.Tie as tie
 
@@ -12,7 +15,10 @@ with-marks-requires : tie.Need-with-marks-requires
 with-marks-requires c κs = search needs
 
 returns : tie.Need-returns
-returns c = simp (
+returns c =
+    let small : c .before .before .args .n % 256 ≡ c .before .before .args .n = omega (arith, c .before .before .pre) in
+    simp (
+  small,
   c .with-marks .ensures,
   c .before .marked-with .ensures,
 )

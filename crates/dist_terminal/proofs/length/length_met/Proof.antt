@@ -1,6 +1,9 @@
 use borrow.Author.Tests.{eq-eqb, ne-eqb}
 use Rattle.dist_terminal.specs.Length.{lengthMet}
 use borrow.Author.Needs.{needs}
+use native.Mathlib.Omega.{arith}
+use mathlib.Core.Path.{_≡_}
+use Prim.Native.Nat.{_%_, _+_, _/_}
 use Rattle.dist_terminal.proofs.length.length_met.Statement.{statement}
 use Rattle.dist_terminal.proofs.length.length_met.Tie as tie
 
@@ -9,7 +12,10 @@ add-result c = search needs
 
 returns : tie.Need-returns
 unfolding lengthMet
-returns c = simp (ne-eqb _ _ (c .before .if1 .taken))
+returns c =
+    let n = c .before .before .before .args .size in
+    let e : n / 2 + n % 2 ≡ (n + 1) / 2 = omega arith in
+    simp (e, ne-eqb _ _ (c .before .if1 .taken))
 
 messages-requires : tie.Need-messages-requires
 messages-requires c κs = search needs

@@ -1,45 +1,51 @@
-use borrow.Author.Tests.{le-leb, le-ltb, lt-leb, lt-ltb}
+use borrow.Author.Tests.{not-true, not-false}
+use borrow.Author.Needs.{needs}
+use mathlib.Core.Path.{_≡_, refl, sym, _∙_}
+use Prim.Native.Nat.{_-_, _≤_}
+use Rattle.dist_terminal.proofs.Lengths.{stop, on, done}
 use native.Mathlib.Omega.{arith}
 use Rattle.dist_terminal.specs.Length.{placesMet}
 use Rattle.dist_terminal.proofs.length.places_met.Statement.{statement}
 use Rattle.dist_terminal.proofs.length.places_met.Tie as tie
 
 abbrev Inv-loop : tie.InvT-loop
-Inv-loop marks size n k₀ k = ?
+Inv-loop marks size n k₀ k = (k ≤ n) × (placesMet marks size 0 n ≡ placesMet marks size k (n - k))
 
 abbrev μ-loop : tie.MeasureT-loop
-μ-loop marks size n k₀ k = ?
+μ-loop marks size n k₀ k = n - k
 
 loop-holds : tie.Need-loop-holds Inv-loop μ-loop
-loop-holds c = omega arith
+loop-holds c =
+    let n = c .args .n in
+    let e : n - 0 ≡ n = omega arith in
+    (omega arith, rw e)
 
 place-met-requires : tie.Need-place-met-requires Inv-loop μ-loop
-place-met-requires c κs = omega arith
+place-met-requires c κs = search needs
 
 returns : tie.Need-returns Inv-loop μ-loop
-unfolding placesMet
-returns c = simp (
-  c .if1 .taken,
-  ← c .before .place-met .ensures,
-  lt-ltb _ _ (c .before .before .loop-test .taken),
-  lt-leb _ _ (c .before .before .loop-test .taken),
-)
+returns c =
+    let l = c .before .before .before in
+    let a = l .before .args in
+    sym (l .loop .inv .1 ∙ stop (a .marks) (a .size) (l .loop .k) (a .n) (c .before .before .loop-test .taken) (sym (c .before .place-met .ensures) ∙ not-true _ (c .if1 .taken)))
 
 add-k : tie.Need-add-k Inv-loop μ-loop
-add-k c = omega arith
+add-k c = search needs
 
 loop-less : tie.Need-loop-less Inv-loop μ-loop
-loop-less c = omega arith
+loop-less c = search needs
 
 loop-again : tie.Need-loop-again Inv-loop μ-loop
-loop-again c = omega arith
+loop-again c =
+    let l = c .before .before .before in
+    let a = l .before .args in
+    (search needs, l .loop .inv .1 ∙ on (a .marks) (a .size) (l .loop .k) (a .n) (c .before .before .loop-test .taken) (sym (c .before .place-met .ensures) ∙ not-false _ (c .if1 .left)))
 
 returns-2 : tie.Need-returns-2 Inv-loop μ-loop
-unfolding placesMet
-returns-2 c = simp (
-  le-leb _ _ (c .loop-test .left),
-  le-ltb _ _ (c .loop-test .left),
-)
+returns-2 c =
+    let l = c .before in
+    let a = l .before .args in
+    sym (l .loop .inv .1 ∙ done (a .marks) (a .size) (l .loop .k) (a .n) (c .loop-test .left))
 
 pub places-met-spec : {M : Type 1} → statement M
 places-met-spec =

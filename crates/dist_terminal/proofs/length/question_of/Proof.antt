@@ -1,6 +1,12 @@
 use borrow.Author.Tests.{eq-eqb, ne-eqb}
 use Rattle.dist_terminal.specs.Length.{questionOf}
 use borrow.Author.Needs.{needs}
+use borrow.Author.Tests.{not-false}
+use native.Mathlib.Omega.{arith}
+use mathlib.Core.Path.{_≡_, sym, _∙_}
+use Prim.Native.Nat.{_%_}
+use Rattle.words.proofs.Round.{sized}
+use Rattle.words.proofs.Ranges.{link-ranges}
 use Rattle.dist_terminal.proofs.length.question_of.Statement.{statement}
 use Rattle.dist_terminal.proofs.length.question_of.Tie as tie
 
@@ -56,10 +62,18 @@ returns-3 c = simp (
 
 returns-4 : tie.Need-returns-4
 unfolding questionOf
-returns-4 c = simp (
-  ← c .lowest-missing .ensures,
+returns-4 c =
+    let m = c .before .before .before .before .before .before .before in
+    let a = m .before .before .before .args in
+    let t = c .before .before .before .before .before .enum-told .given .1 in
+    let s = sized (a .t .link) (a .size) (sym (m .size-answer .ensures) ∙ t) in
+    let r = link-ranges (a .t .link) (sym (m .before .before .is-configured .ensures) ∙ not-false _ (m .before .if1 .left)) in
+    let small : a .size % 65536 ≡ a .size = omega arith in
+    simp (
+  c .lowest-missing .ensures,
   c .before .marked .ensures,
-  ← c .before .before .messages .ensures,
+  c .before .before .messages .ensures,
+  small,
   eq-eqb _ _ (c .before .before .before .if2 .left),
   c .before .before .before .before .before .enum-told .given .1,
   ← c .before .before .before .before .before .before .before .size-answer .ensures,
