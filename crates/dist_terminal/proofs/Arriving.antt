@@ -74,10 +74,10 @@ place link subaddress n store z l m =
     let k = rw z at (l .most) in
     record { from = leb-true 11 subaddress (u .0); to = leb-true subaddress 26 (u .1); room = k }
 
-pub room-of-one : (link : Link) (store : ℕ) → (link .mode ≡ 0 → ⊥) → Long link store → 4096 ≤ store
+pub room-of-one : (link : Link) (store : ℕ) → (link .mode ≡ 0 → ⊥) → messageStoreOf link ≤ store → 4096 ≤ store
 unfolding messageStoreOf
 room-of-one link store ne l =
-    by (eqb (link .mode) 0) (λ e. absurd (ne (eqb-true (link .mode) 0 e))) (λ e. let k = rw e at (l .most) in k)
+    by (eqb (link .mode) 0) (λ e. absurd (ne (eqb-true (link .mode) 0 e))) (λ e. let k = rw e at l in k)
 
 -- a message that fits is written whole
 pub whole : (s : List ℕ) (at : ℕ) (ws : List ℕ) → length ws ≤ 32 → at + 2 * length ws ≤ length s → messageWrittenOf s at ws ≡ sets s at (bytesOf ws)

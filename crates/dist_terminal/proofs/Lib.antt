@@ -1,2 +1,4 @@
 pub mod Arriving
 pub mod Lengths
+pub mod Filling
+pub mod Ready

@@ -1,3 +1,5 @@
 pub mod State
 pub mod Data
 pub mod Length
+pub mod Descriptor
+pub mod Take

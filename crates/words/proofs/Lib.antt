@@ -6,3 +6,4 @@ pub mod Table
 pub mod Edges
 pub mod Bytes
 pub mod Cut
+pub mod Fits

@@ -103,3 +103,17 @@ pub link-ranges : (link : Link) → configuredOf link ≡ true
     → Ranges (link .address) (link .mode) (link .subaddress) (link .largest) (link .window)
 unfolding configuredOf
 link-ranges link e = ranges (link .address) (link .mode) (link .subaddress) (link .largest) (link .window) e
+
+-- the largest block is 1024 or 4096
+pub largest-cases : (link : Link) → configuredOf link ≡ true → (link .largest ≡ 1024) ⊎ (link .largest ≡ 4096)
+unfolding configuredOf inRanges
+largest-cases link e =
+    let p = both (leb (link .address) 30) _ e in
+    let q = both (leb 2 (link .window)) _ (p .1) in
+    let r = both (leb (link .window) 16) _ (q .1) in
+    cases (modes (link .mode) (link .subaddress) (link .largest) (r .1))
+  where
+    cases : Sixteen (link .mode) (link .subaddress) (link .largest) ⊎ One (link .mode) (link .subaddress) (link .largest)
+        → (link .largest ≡ 1024) ⊎ (link .largest ≡ 4096)
+    cases (inl s) = inl (s .largest)
+    cases (inr o) = o .largest

@@ -24,7 +24,7 @@ append-requires : tie.Need-append-requires
 append-requires c κs =
     let m = c .before .before .before .before .before in
     let k = arriving _ _ _ _ (sym (m .answer .ensures) ∙ c .before .before .before .enum-told .given .1) in
-    (room-of-one _ _ (c .before .if1 .taken) (k .long), k .message .few)
+    (room-of-one _ _ (c .before .if1 .taken) (k .long .most), k .message .few)
 
 noted-words-requires : tie.Need-noted-words-requires
 noted-words-requires c κs =

@@ -1,0 +1,45 @@
+use borrow.Author.Tests.{eq-eqb, ne-eqb}
+use Rattle.dist_terminal.proofs.Arriving.{room-of-one}
+use Rattle.dist_terminal.proofs.Filling.{copied}
+use Rattle.dist_terminal.specs.Descriptor.{takenOf}
+use borrow.Author.Needs.{needs}
+use Rattle.dist_terminal.proofs.descriptor.fill_hand.Statement.{statement}
+use Rattle.dist_terminal.proofs.descriptor.fill_hand.Tie as tie
+
+fill-from-words-requires : tie.Need-fill-from-words-requires
+fill-from-words-requires c κs =
+    let p = c .before .before .before .before .before .pre in
+    (p .0, (p .1 .0, room-of-one _ _ (c .before .if1 .taken) (p .1 .1)))
+
+same-length : tie.Need-same-length
+same-length c = search needs
+
+returns : tie.Need-returns
+unfolding takenOf
+returns c = simp (
+    c .before .before .fill-from-words .ensures,
+    ne-eqb _ _ (c .before .before .before .before .if1 .taken))
+
+copy-bytes-requires : tie.Need-copy-bytes-requires
+copy-bytes-requires c κs = search needs
+
+same-length-2 : tie.Need-same-length-2
+same-length-2 c = search needs
+
+returns-2 : tie.Need-returns-2
+unfolding takenOf
+returns-2 c = simp (
+    c .before .before .copy-bytes .ensures,
+    copied _ _ _ (c .before .before .before .before .before .before .before .before .pre .0),
+    eq-eqb _ _ (c .before .before .before .before .if1 .left))
+
+pub fill-hand-spec : {M : Type 1} → statement M
+fill-hand-spec =
+    tie.close
+    (tie.spec
+    fill-from-words-requires
+    same-length
+    returns
+    copy-bytes-requires
+    same-length-2
+    returns-2)
