@@ -2,7 +2,7 @@
 -- Assumes nothing.
 use Prim.Native.Nat.{ℕ}
 use mathlib.Core.Bool.{Bool, cond, _||_}
-use mathlib.Core.List.{List, []}
+use mathlib.Core.List.{List, [], _∷_}
 use lib.Dec.{ltb}
 use lib.ListN.{length, take}
 use lib.Seq.{sets}
@@ -14,6 +14,8 @@ use Rattle.dist_controller.specs.Submit.{shortOf}
 use Rattle.dist_controller.specs.declared.state.Phase.{Phase}
 use Rattle.dist_controller.specs.declared.state.Phase.the-variants.{Idle, Sending, Waiting, Reading, Resetting, ResetWaiting, ResetReading, CutSending, CutReading, CutResetting}
 use Rattle.dist_controller.specs.declared.state.Controller.{Controller}
+use Rattle.dist_controller.specs.declared.asked.Asked.{Asked}
+use Rattle.dist_controller.specs.declared.asked.Asked.the-variants as Asked
 use Rattle.dist_controller.specs.declared.message.Ask.{Ask}
 use Rattle.dist_controller.specs.declared.message.Ask.the-variants.{Message, Refused}
 
@@ -54,3 +56,10 @@ messageOf c store out = cond (unreadable c store out) (Refused 1) (Message (aske
 -- the buffer: the message's words at its start; a refusal leaves it as it was
 unfoldable pub bufferAfter : Controller → List ℕ → List ℕ → List ℕ
 bufferAfter c store out = cond (unreadable c (length store) (length out)) out (sets out 0 (wordsAsked c store))
+
+-- the paper's number, 0 for accepted; then 1 where the terminal receives and 2 where it transmits, subaddress and words
+abbrev pub askNumbers : Ask → List ℕ
+askNumbers (Refused n) = n ∷ []
+askNumbers (Message Asked.Nothing) = 0 ∷ []
+askNumbers (Message (Asked.Receive subaddress words)) = 0 ∷ 1 ∷ subaddress ∷ words ∷ []
+askNumbers (Message (Asked.Transmit subaddress words)) = 0 ∷ 2 ∷ subaddress ∷ words ∷ []

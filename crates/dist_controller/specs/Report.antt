@@ -6,8 +6,8 @@ use mathlib.Core.List.{List, [], _∷_}
 use lib.Dec.{ltb}
 use lib.ListN.{length}
 use Rattle.words.specs.Link.{configureOf, configuredOf, blockStoreOf}
-use Rattle.words.specs.declared.link.Configuring.the-variants as Link
-use Rattle.words.specs.declared.link.Configuring as Words
+use Rattle.words.specs.declared.link.Configuring.{Configuring}
+use Rattle.words.specs.declared.link.Configuring.the-variants.{Configured, Refused}
 use Rattle.dist_controller.specs.State.{freshOf}
 use Rattle.dist_controller.specs.Asked.{messageList}
 use Rattle.dist_controller.specs.declared.state.Phase.{Phase}
@@ -17,21 +17,20 @@ use Rattle.dist_controller.specs.declared.state.Fate.the-variants as Fat
 use Rattle.dist_controller.specs.declared.state.Finding.{Finding}
 use Rattle.dist_controller.specs.declared.state.Finding.the-variants as Finding
 use Rattle.dist_controller.specs.declared.state.Controller.{Controller}
-use Rattle.dist_controller.specs.declared.report.Configuring.{Configuring}
-use Rattle.dist_controller.specs.declared.report.Configuring.the-variants as Configuring
+use Rattle.dist_controller.specs.Told.{accept, refuse}
+use Rattle.dist_controller.specs.declared.told.Stepped.{Stepped}
 use Rattle.dist_controller.specs.declared.report.Acceptance.{Acceptance}
 use Rattle.dist_controller.specs.declared.report.Acceptance.the-variants as Acceptance
 use Rattle.dist_controller.specs.declared.report.Reported.{Reported}
 use Rattle.dist_controller.specs.declared.report.Reported.the-variants as Reported
 
--- 20: a configuration outside the ranges, or a store too short
-abbrev pub configuringIn : Words.Configuring → ℕ → Configuring
-configuringIn (Link.Refused n) store = Configuring.Refused n
-configuringIn (Link.Configured link) store =
-    cond (ltb store (blockStoreOf link)) (Configuring.Refused 20) (Configuring.Configured (freshOf link 0))
+-- 20: a configuration outside the ranges, or a store too short. Configuring starts a new run; refused, it leaves an earlier one as it was
+abbrev pub configuringIn : Configuring → Controller → ℕ → Stepped
+configuringIn (Refused n) c store = refuse n c
+configuringIn (Configured link) c store = cond (ltb store (blockStoreOf link)) (refuse 20 c) (accept (freshOf link 0))
 
-unfoldable pub configuringOf : ℕ → ℕ → ℕ → ℕ → ℕ → ℕ → Configuring
-configuringOf address mode subaddress largest window store = configuringIn (configureOf address mode subaddress largest window) store
+unfoldable pub configuringOf : Controller → ℕ → ℕ → ℕ → ℕ → ℕ → ℕ → Stepped
+configuringOf c address mode subaddress largest window store = configuringIn (configureOf address mode subaddress largest window) c store
 
 abbrev pub pendingOf : Phase → Acceptance
 pendingOf Idle = Acceptance.NotAccepted

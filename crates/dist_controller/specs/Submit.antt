@@ -1,6 +1,6 @@
 -- A block is submitted (document 01, "Distribution", "Numbers a caller may get back").
 -- Assumes nothing.
-use Prim.Native.Nat.{ℕ, _+_, _%_}
+use Prim.Native.Nat.{ℕ, _+_}
 use mathlib.Core.Bool.{Bool, true, false, cond, not, _||_}
 use mathlib.Core.List.{List}
 use lib.Dec.{leb, ltb}
@@ -44,12 +44,16 @@ submitAnswerOf c size store =
     (cond (not (c .standing .accepted)) (Refused 2)
     (thenAnswer (sizeAnswerOf (c .link) size) (roomAnswerOf c)))
 
+-- one more spent transfer, never over 254
+unfoldable pub oneMoreSpent : ℕ → ℕ
+oneMoreSpent spent = cond (leb limit spent) spent (spent + 1)
+
 -- each started transfer takes the next count, and asks for its first data message at once
 unfoldable pub startedOf : Quality → ℕ → Controller → Controller
 startedOf quality size c =
     withTransfer (record { size = size; quality = quality; gone = 1; fate = Fate.Open }) Sending
     (withStanding
-    (record { accepted = c .standing .accepted; count = nextDistribution (c .standing .count); spent = c .standing .spent % 255 + 1 })
+    (record { accepted = c .standing .accepted; count = nextDistribution (c .standing .count); spent = oneMoreSpent (c .standing .spent) })
     Sending
     c)
 

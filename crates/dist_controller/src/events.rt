@@ -1,4 +1,4 @@
-// The controller's other events: a frame begins, a Reset is asked for, the controller restarts; and what it tells its application.
+// The controller's other events: a frame begins, a Reset is asked for, the controller restarts.
 use crate::state::Clock;
 use crate::state::Controller;
 use crate::state::Fate;

@@ -4,13 +4,14 @@ use crate::state::Fate;
 use crate::state::Finding;
 use crate::state::Phase;
 use crate::state::fresh;
+use crate::told::Stepped;
+use crate::told::accept;
+use crate::told::refuse;
+use words::link::Configuring;
 ghost use mathlib.Core.Path.{_≡_};
+ghost use Rattle.words.specs.Link.{noLink};
+ghost use Rattle.dist_controller.specs.State.{freshOf};
 ghost use Rattle.dist_controller.specs.Report.{configuringOf, acceptanceOf, reportOf};
-
-pub enum Configuring {
-    Configured(Controller),
-    Refused(u8),
-}
 
 // Where the last Reset stands.
 pub enum Acceptance {
@@ -32,25 +33,33 @@ pub enum Reported {
     Refused(u8),
 }
 
-// A new run, or refusal 20: a number outside its range, or the block store too short.
+// A controller whose link is not set up.
+pub fn unconfigured() -> Controller
+    ensures { λ r. ⌜ r ≡ freshOf noLink 0 ⌝ }
+{
+    fresh(words::link::no_link(), 0)
+}
+
+// A new run, or refusal 20, which leaves an earlier run as it was: a number outside its range, or the block store too short.
 pub fn configure(
+    c: Controller,
     address: u32,
     mode: u32,
     subaddress: u32,
     largest: u32,
     window: u32,
     store: usize,
-) -> Configuring
-    ensures { λ r. ⌜ r ≡ configuringOf address mode subaddress largest window store ⌝ }
+) -> Stepped
+    ensures { λ r. ⌜ r ≡ configuringOf c address mode subaddress largest window store ⌝ }
 {
     let configuring = words::link::configure(address, mode, subaddress, largest, window);
     match configuring {
-        words::link::Configuring::Refused(n) => Configuring::Refused(n),
-        words::link::Configuring::Configured(link) => {
+        Configuring::Refused(n) => refuse(n, c),
+        Configuring::Configured(link) => {
             if store < words::link::block_store(link) {
-                return Configuring::Refused(20);
+                return refuse(20, c);
             }
-            Configuring::Configured(fresh(link, 0))
+            accept(fresh(link, 0))
         }
     }
 }

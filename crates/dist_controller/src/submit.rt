@@ -1,4 +1,4 @@
-// A block is submitted, and the words of the message asked for are read out of the lent block store (document 01, "Distribution").
+// A block is submitted (document 01, "Distribution").
 use crate::state::Controller;
 use crate::state::Fate;
 use crate::state::Phase;
@@ -15,7 +15,7 @@ use words::control::Quality;
 use words::link::Link;
 ghost use mathlib.Core.Path.{_≡_};
 ghost use lib.ListN.{length};
-ghost use Rattle.dist_controller.specs.Submit.{shortOf, roomAnswerOf, submitAnswerOf, startedOf, submitOf, storeAfter};
+ghost use Rattle.dist_controller.specs.Submit.{shortOf, roomAnswerOf, oneMoreSpent, submitAnswerOf, startedOf, submitOf, storeAfter};
 
 // Whether the link is not configured, or the lent block store is too short for it.
 pub fn short(link: Link, store: usize) -> bool
@@ -58,6 +58,16 @@ fn submit_answer(c: Controller, size: usize, store: usize) -> Answer
     }
 }
 
+// Below 254 this is one more; the byte never runs over.
+fn one_more_spent(spent: u8) -> u8
+    ensures { λ r. ⌜ r ≡ oneMoreSpent spent ⌝ }
+{
+    if 254 <= spent {
+        return spent;
+    }
+    spent + 1
+}
+
 // A transfer takes the next count and asks for its first data message at once.
 fn started(c: Controller, quality: Quality, size: u16) -> Controller
     ensures { λ r. ⌜ r ≡ startedOf quality size c ⌝ }
@@ -65,7 +75,7 @@ fn started(c: Controller, quality: Quality, size: u16) -> Controller
     let standing = Standing {
         accepted: c.standing.accepted,
         count: c.standing.count.next(),
-        spent: c.standing.spent % 255 + 1,
+        spent: one_more_spent(c.standing.spent),
     };
     let transfer = Transfer {
         size,

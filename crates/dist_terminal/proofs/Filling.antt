@@ -24,24 +24,22 @@ joined l a b n e =
     let z : 0 + n ≡ n = omega arith in
     rw (take-at a b n e, drop-at a b n e, z) at t
 
+-- a part that was lent to be zeroed comes back as a run of zeros in the whole
+pub zeroed : (s ys : List ℕ) (a n : ℕ) → a + n ≤ length s → ys ≡ zerosOf (length (take n (drop a s))) → putMid a n s ys ≡ sets s a (zerosOf n)
+unfolding zerosOf
+zeroed s ys a n h e =
+    let k : length (take n (drop a s)) ≡ n = length-take-le n (drop a s) (rw (length-drop a s) (omega arith)) in
+    let l = length-replicate {A = ℕ} n 0 in
+    part-back s ys (replicate n 0) a n (e ∙ rw k (sym (sets-all (take n (drop a s)) (replicate n 0) (l ∙ sym k)))) h (omega (arith, l))
+
 module _ (store hand h ys : List ℕ) (received size came : ℕ) (e : came ≡ min size (2 * received)) (small : size ≤ 4096)
     (room : size ≤ length hand) (long : 4096 ≤ length store) (first : h ≡ copiedOf store hand came)
     (rest : ys ≡ zerosOf (length (take (size - came) (drop came h)))) where
-  same-length : length h ≡ length hand
-  same-length = ap length first ∙ length-copied store hand came
-
-  zeros : ys ≡ sets (take (size - came) (drop came h)) 0 (replicate (size - came) 0)
-  unfolding zerosOf
-  zeros =
-      let n : length (take (size - came) (drop came h)) ≡ size - came =
-      length-take-le (size - came) (drop came h) (rw (length-drop came h, same-length) (omega arith)) in
-      rest ∙ rw n (sym (sets-all (take (size - came) (drop came h)) (replicate (size - came) 0) (length-replicate {A = ℕ} (size - came) 0 ∙ sym n)))
-
   pub filled : putMid came (size - came) h ys ≡ sets hand 0 (firstWords received size store)
-  unfolding firstWords
+  unfolding firstWords zerosOf
   filled =
-      let l = length-replicate {A = ℕ} (size - came) 0 in
-      let b = part-back h ys (replicate (size - came) 0) came (size - came) zeros (rw same-length (omega arith)) (omega (arith, l)) in
+      let l = ap length first ∙ length-copied store hand came in
+      let b = zeroed h ys came (size - came) (rw l (omega arith)) rest in
       let c = first ∙ copied store hand came (omega arith) in
       let k : size - came ≡ size - 2 * received = omega arith in
       let n = length-take-le came store (omega arith) in

@@ -6,7 +6,8 @@ use mathlib.Core.Bool.{Bool, true, false, _||_}
 use native.Mathlib.Omega.{arith}
 use lib.Dec.{ltb}
 use borrow.Author.Tests.{ltb-false}
-use Rattle.words.specs.Link.{blockStoreOf}
+use Rattle.words.specs.Link.{blockStoreOf, messageStoreOf}
+use Rattle.dist_terminal.specs.Calls.{unfitOf}
 use Rattle.words.specs.declared.link.Link.{Link}
 use Rattle.words.proofs.Ranges.{by}
 use Rattle.dist_terminal.specs.Data.{storeShort}
@@ -23,3 +24,10 @@ ready link store hand e =
     by (storeShort link store) (λ s. absurd (let f = rw s at e in let z : _≡_ {A = ℕ} 0 1 = cc in omega arith)) (λ s.
     let f = rw s at e in
     record { store = long link store s; most = ltb-false hand (link .largest) f })
+
+-- stores that fit a link that is being configured
+pub fits : (link : Link) (store hand : ℕ) → unfitOf link store hand ≡ false → messageStoreOf link ≤ store
+unfolding unfitOf
+fits link store hand e =
+    by (ltb store (messageStoreOf link)) (λ s. absurd (let f = rw s at e in let z : _≡_ {A = ℕ} 0 1 = cc in omega arith))
+    (λ s. ltb-false store (messageStoreOf link) s)

@@ -3,3 +3,4 @@ pub mod Data
 pub mod Length
 pub mod Descriptor
 pub mod Take
+pub mod Calls

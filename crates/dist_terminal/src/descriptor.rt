@@ -31,7 +31,7 @@ pub enum Judged {
 }
 
 // Whether the link is not configured, or a lent store is too short for it.
-fn is_short(link: Link, store: usize, hand: usize) -> bool
+pub fn is_short(link: Link, store: usize, hand: usize) -> bool
     ensures { λ r. ⌜ r ≡ short link store hand ⌝ }
 {
     if store_short(link, store) {
@@ -118,7 +118,14 @@ fn fill_hand(t: Terminal, size: usize, store: &[u8], hand: &mut [u8])
 }
 
 // A descriptor without Reset.
-fn block(t: Terminal, size: u16, quality: Quality, count: DistributionCount, store: &[u8], hand: &mut [u8]) -> Stepped
+fn block(
+    t: Terminal,
+    size: u16,
+    quality: Quality,
+    count: DistributionCount,
+    store: &[u8],
+    hand: &mut [u8],
+) -> Stepped
     requires { ⌜ (size ≤ 4096) × ((size ≤ length (now hand)) × (messageStoreOf (t .link) ≤ length (now store))) ⌝ }
     ensures result { λ r. ⌜ r ≡ blockStep (judgedOf t size quality count) t size count ⌝ }
     ensures bytes { λ _. ⌜ now (hand .exit) ≡ blockHand (judgedOf t size quality count) t size (now (store .entry)) (now (hand .entry)) ⌝ }

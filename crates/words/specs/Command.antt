@@ -18,3 +18,9 @@ readCommandOf words =
     cond (eqb (length words) 0 || ltb 32 (length words)) (Refused 19)
     (cond (ltb (length words) 2) Other
     (cond (eqb (getD words 1 0 % 2) 1) Reset Other))
+
+-- the paper's number, 0 for accepted, and whether it is the command
+abbrev pub commandNumbers : Command → List ℕ
+commandNumbers Reset = 0 ∷ 1 ∷ []
+commandNumbers Other = 0 ∷ 0 ∷ []
+commandNumbers (Refused n) = n ∷ []

@@ -28,11 +28,11 @@ wordsFrom size k (suc n) = messageWordsOf size k ∷ wordsFrom size (suc k) n
 abbrev pub eachWords : ℕ → List ℕ
 eachWords size = wordsFrom size 0 (messagesOf size)
 
--- a descriptor is made as the paper has it, and read back: number 0, then size, QoS and count; a Reset has no values
+-- a descriptor is made as the paper has it, and read back: number 0, then size, QoS and count
 abbrev pub edges : List Row
 edges =
     record { given = listOf resetWords; paper = 0x0000 ∷ 0x4B00 ∷ [] }  -- a
-    ∷ record { given = descriptorNumbers (readDescriptorOf (0x0000 ∷ 0x4B00 ∷ []) sixteen); paper = 0 ∷ [] }
+    ∷ record { given = descriptorNumbers (readDescriptorOf (0x0000 ∷ 0x4B00 ∷ []) sixteen); paper = 0 ∷ 0 ∷ 0 ∷ 0 ∷ [] }
     ∷ record { given = listOf (descriptorWords sixteen 65 BestEffort (distributionCount 1)); paper = 0x0041 ∷ 0x0B01 ∷ [] }  -- b
     ∷ record { given = descriptorNumbers (readDescriptorOf (0x0041 ∷ 0x0B01 ∷ []) sixteen); paper = 0 ∷ 65 ∷ 0 ∷ 1 ∷ [] }
     ∷ record { given = listOf (descriptorWords sixteen 1024 Verified (distributionCount 254)); paper = 0x0400 ∷ 0x8BFE ∷ [] }  -- c

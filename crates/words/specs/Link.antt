@@ -1,6 +1,7 @@
 -- The configuration of a link, and the storage that it needs (document 01, "The two machines").
 -- Assumes nothing.
 use Prim.Native.Nat.{ℕ}
+use mathlib.Core.List.{List, [], _∷_}
 use mathlib.Core.Bool.{Bool, cond, not, _&&_, _||_}
 use lib.Dec.{eqb, leb}
 use Rattle.words.specs.declared.link.Link.{Link}
@@ -26,6 +27,10 @@ configureOf address mode subaddress largest window =
     (Refused 20)
     (Configured (record { address = address; mode = mode; subaddress = subaddress; largest = largest; window = window }))
 
+-- a link not set up: address 31 is no terminal's
+abbrev pub noLink : Link
+noLink = record { address = 31; mode = 0; subaddress = 0; largest = 0; window = 0 }
+
 unfoldable pub configuredOf : Link → Bool
 configuredOf link = inRanges (link .address) (link .mode) (link .subaddress) (link .largest) (link .window)
 
@@ -36,3 +41,8 @@ messageStoreOf link = cond (eqb (link .mode) 0) 1024 4096
 -- a sender's block store, and a receiver's hand: the link's largest block
 unfoldable pub blockStoreOf : Link → ℕ
 blockStoreOf link = link .largest
+
+-- the paper's number, 0 for accepted, and the five numbers
+abbrev pub configuringNumbers : Configuring → List ℕ
+configuringNumbers (Configured link) = 0 ∷ link .address ∷ link .mode ∷ link .subaddress ∷ link .largest ∷ link .window ∷ []
+configuringNumbers (Refused n) = n ∷ []

@@ -104,24 +104,24 @@ readAcquisitionConfirmationOf words link = acquisitionConfirmationOf (readOf wor
 
 -- ---- each answer as the paper's number, 0 for accepted, and its values
 
--- a block's: size, QoS or Error, count; none of a Reset
+-- size, QoS or Error, and count, all 0 in a Reset; two zero words have none
 abbrev pub descriptorNumbers : Descriptor → List ℕ
-descriptorNumbers D.Reset = 0 ∷ []
+descriptorNumbers D.Reset = 0 ∷ 0 ∷ 0 ∷ 0 ∷ []
 descriptorNumbers (D.Block size quality count) = 0 ∷ size ∷ bitOf (verifiedOf quality) ∷ count .0 ∷ []
 descriptorNumbers (D.Refused n) = n ∷ []
 
 abbrev pub requestNumbers : Request → List ℕ
-requestNumbers R.Nothing = []
-requestNumbers R.Reset = 0 ∷ []
+requestNumbers R.Nothing = 0 ∷ []
+requestNumbers R.Reset = 0 ∷ 0 ∷ 0 ∷ 0 ∷ []
 requestNumbers (R.Block size quality count) = 0 ∷ size ∷ bitOf (verifiedOf quality) ∷ count .0 ∷ []
 requestNumbers (R.Refused n) = n ∷ []
 
 abbrev pub distributionConfirmationNumbers : DistributionConfirmation → List ℕ
-distributionConfirmationNumbers DC.Reset = 0 ∷ []
+distributionConfirmationNumbers DC.Reset = 0 ∷ 0 ∷ 0 ∷ 0 ∷ []
 distributionConfirmationNumbers (DC.Block size error count) = 0 ∷ size ∷ bitOf error ∷ count .0 ∷ []
 distributionConfirmationNumbers (DC.Refused n) = n ∷ []
 
 abbrev pub acquisitionConfirmationNumbers : AcquisitionConfirmation → List ℕ
-acquisitionConfirmationNumbers AC.Reset = 0 ∷ []
+acquisitionConfirmationNumbers AC.Reset = 0 ∷ 0 ∷ 0 ∷ 0 ∷ []
 acquisitionConfirmationNumbers (AC.Block size error count) = 0 ∷ size ∷ bitOf error ∷ count .0 ∷ []
 acquisitionConfirmationNumbers (AC.Refused n) = n ∷ []

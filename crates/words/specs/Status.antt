@@ -20,3 +20,8 @@ outcomeOf came status address wordsAsked wordsCame =
     (lost (eqb (status / 8 % 2) 1)
     (lost (not (eqb wordsCame wordsAsked))
     Done))))
+
+-- 0 where the message is done
+abbrev pub outcomeNumber : Outcome → ℕ
+outcomeNumber Done = 0
+outcomeNumber NoReply = 1

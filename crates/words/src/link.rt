@@ -1,6 +1,6 @@
 // What both ends know of a link (document 01, "The two machines").
 ghost use mathlib.Core.Path.{_≡_};
-ghost use Rattle.words.specs.Link.{modeAllows, inRanges, configureOf, configuredOf, messageStoreOf, blockStoreOf};
+ghost use Rattle.words.specs.Link.{modeAllows, inRanges, configureOf, noLink, configuredOf, messageStoreOf, blockStoreOf};
 
 pub struct Link {
     pub address: u8,
@@ -74,6 +74,19 @@ pub fn configure(address: u32, mode: u32, subaddress: u32, largest: u32, window:
         largest: (largest % 65536) as u16,
         window: (window % 256) as u8,
     })
+}
+
+// No link yet: its numbers are no configuration.
+pub fn no_link() -> Link
+    ensures { λ r. ⌜ r ≡ noLink ⌝ }
+{
+    Link {
+        address: 31,
+        mode: 0,
+        subaddress: 0,
+        largest: 0,
+        window: 0,
+    }
 }
 
 // Whether a link's numbers, wherever they come from, are a configuration.

@@ -10,41 +10,53 @@ configure-requires c κs = search needs
 enum-known-configuring : tie.Need-enum-known-configuring
 enum-known-configuring c = search needs
 
+refuse-requires : tie.Need-refuse-requires
+refuse-requires c κs = search needs
+
 enum-known-configuring-2 : tie.Need-enum-known-configuring-2
 enum-known-configuring-2 c = search needs
 
 block-store-requires : tie.Need-block-store-requires
 block-store-requires c κs = search needs
 
+refuse-requires-2 : tie.Need-refuse-requires-2
+refuse-requires-2 c κs = search needs
+
 returns : tie.Need-returns
 unfolding configuringOf
 returns c = simp (
-  lt-ltb _ _ (c .if1 .taken),
-  lt-leb _ _ (c .if1 .taken),
-  ← c .before .block-store .ensures,
-  c .before .before .before .configuring2 .given .1,
-  ← c .before .before .before .before .before .configure .ensures,
+  c .refuse2 .ensures,
+  lt-ltb _ _ (c .before .if1 .taken),
+  lt-leb _ _ (c .before .if1 .taken),
+  ← c .before .before .block-store .ensures,
+  c .before .before .before .before .configuring2 .given .1,
+  ← c .before .before .before .before .before .before .configure .ensures,
 )
 
 fresh-requires : tie.Need-fresh-requires
 fresh-requires c κs = search needs
 
+accept-requires : tie.Need-accept-requires
+accept-requires c κs = search needs
+
 returns-2 : tie.Need-returns-2
 unfolding configuringOf
 returns-2 c = simp (
-  c .before .configuring .given .1,
-  ← c .before .before .before .configure .ensures,
+  c .refuse .ensures,
+  c .before .before .configuring .given .1,
+  ← c .before .before .before .before .configure .ensures,
 )
 
 returns-3 : tie.Need-returns-3
 unfolding configuringOf
 returns-3 c = simp (
-  c .fresh .ensures,
-  le-leb _ _ (c .before .if1 .left),
-  le-ltb _ _ (c .before .if1 .left),
-  ← c .before .before .block-store .ensures,
-  c .before .before .before .before .configuring2 .given .1,
-  ← c .before .before .before .before .before .before .configure .ensures,
+  c .accept .ensures,
+  c .before .fresh .ensures,
+  le-leb _ _ (c .before .before .if1 .left),
+  le-ltb _ _ (c .before .before .if1 .left),
+  ← c .before .before .before .block-store .ensures,
+  c .before .before .before .before .before .configuring2 .given .1,
+  ← c .before .before .before .before .before .before .before .configure .ensures,
 )
 
 pub configure-spec : {M : Type 1} → statement M
@@ -53,9 +65,12 @@ configure-spec =
     (tie.spec
     configure-requires
     enum-known-configuring
+    refuse-requires
     enum-known-configuring-2
     block-store-requires
+    refuse-requires-2
     returns
     fresh-requires
+    accept-requires
     returns-2
     returns-3)

@@ -18,10 +18,10 @@ returns : tie.Need-returns
 returns c =
     let small : c .before .before .args .n % 256 ≡ c .before .before .args .n = omega (arith, c .before .before .pre) in
     simp (
-  small,
-  c .with-marks .ensures,
-  c .before .marked-with .ensures,
-)
+      small,
+      c .with-marks .ensures,
+      c .before .marked-with .ensures,
+    )
 
 pub noted-place-spec : {M : Type 1} → statement M
 noted-place-spec =

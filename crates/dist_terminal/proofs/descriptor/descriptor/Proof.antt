@@ -17,9 +17,10 @@ refuse-requires c κs = search needs
 returns : tie.Need-returns
 unfolding descriptorOf handAfter
 returns c = simp (
-    c .refuse .ensures,
-    c .before .if1 .taken,
-    ← c .before .before .is-short .ensures) (refl, refl)
+  c .refuse .ensures,
+  c .before .if1 .taken,
+  ← c .before .before .is-short .ensures,
+) (refl, refl)
 
 read-descriptor-requires : tie.Need-read-descriptor-requires
 read-descriptor-requires c κs = search needs
@@ -53,21 +54,23 @@ block-requires c κs =
 returns-2 : tie.Need-returns-2
 unfolding descriptorOf handAfter
 returns-2 c = simp (
-    c .refuse2 .ensures,
-    c .before .before .read .given .1,
-    ← c .before .before .before .before .read-descriptor .ensures,
-    c .before .before .before .before .before .if1 .left,
-    ← c .before .before .before .before .before .before .is-short .ensures) (refl, refl)
+  c .refuse2 .ensures,
+  c .before .before .read .given .1,
+  ← c .before .before .before .before .read-descriptor .ensures,
+  c .before .before .before .before .before .if1 .left,
+  ← c .before .before .before .before .before .before .is-short .ensures,
+) (refl, refl)
 
 returns-3 : tie.Need-returns-3
 unfolding descriptorOf handAfter
 returns-3 c = simp (
-    c .accept .ensures,
-    c .before .after-reset .ensures,
-    c .before .before .enum-told .given .1,
-    ← c .before .before .before .before .read-descriptor .ensures,
-    c .before .before .before .before .before .if1 .left,
-    ← c .before .before .before .before .before .before .is-short .ensures) (refl, refl)
+  c .accept .ensures,
+  c .before .after-reset .ensures,
+  c .before .before .enum-told .given .1,
+  ← c .before .before .before .before .read-descriptor .ensures,
+  c .before .before .before .before .before .if1 .left,
+  ← c .before .before .before .before .before .before .is-short .ensures,
+) (refl, refl)
 
 same-length : tie.Need-same-length
 same-length c = search needs
@@ -77,10 +80,11 @@ unfolding descriptorOf handAfter
 returns-4 c =
     let b = c .before .before .block .ensures in
     simp (
-    c .before .before .before .before .before .read2 .given .1,
-    ← c .before .before .before .before .before .before .before .read-descriptor .ensures,
-    c .before .before .before .before .before .before .before .before .if1 .left,
-    ← c .before .before .before .before .before .before .before .before .before .is-short .ensures) (b .0, b .1)
+      c .before .before .before .before .before .read2 .given .1,
+      ← c .before .before .before .before .before .before .before .read-descriptor .ensures,
+      c .before .before .before .before .before .before .before .before .if1 .left,
+      ← c .before .before .before .before .before .before .before .before .before .is-short .ensures,
+    ) (b .0, b .1)
 
 pub descriptor-spec : {M : Type 1} → statement M
 descriptor-spec =

@@ -13,9 +13,10 @@ with-hand-requires c κs = search needs
 
 returns : tie.Need-returns
 returns c = simp (
-    c .with-hand .ensures,
-    c .before .cleared .ensures,
-    c .before .before .distribution-confirmation-words .ensures)
+  c .with-hand .ensures,
+  c .before .cleared .ensures,
+  c .before .before .distribution-confirmation-words .ensures,
+)
 
 pub failed-spec : {M : Type 1} → statement M
 failed-spec =

@@ -17,8 +17,9 @@ same-length c = search needs
 returns : tie.Need-returns
 unfolding takenOf
 returns c = simp (
-    c .before .before .fill-from-words .ensures,
-    ne-eqb _ _ (c .before .before .before .before .if1 .taken))
+  c .before .before .fill-from-words .ensures,
+  ne-eqb _ _ (c .before .before .before .before .if1 .taken),
+)
 
 copy-bytes-requires : tie.Need-copy-bytes-requires
 copy-bytes-requires c κs = search needs
@@ -28,10 +29,14 @@ same-length-2 c = search needs
 
 returns-2 : tie.Need-returns-2
 unfolding takenOf
-returns-2 c = simp (
-    c .before .before .copy-bytes .ensures,
-    copied _ _ _ (c .before .before .before .before .before .before .before .before .pre .0),
-    eq-eqb _ _ (c .before .before .before .before .if1 .left))
+returns-2 c =
+    let k = c .before .before .before .before .before .before .before .before in
+    let a = k .args in
+    simp (
+      c .before .before .copy-bytes .ensures,
+      copied (a .store .now) (a .hand .now) (a .size) (k .pre .0),
+      eq-eqb _ _ (c .before .before .before .before .if1 .left),
+    )
 
 pub fill-hand-spec : {M : Type 1} → statement M
 fill-hand-spec =

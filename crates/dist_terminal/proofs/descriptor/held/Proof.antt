@@ -10,8 +10,9 @@ with-hand-requires c κs = search needs
 
 returns : tie.Need-returns
 returns c = simp (
-    c .with-hand .ensures,
-    c .before .cleared .ensures)
+  c .with-hand .ensures,
+  c .before .cleared .ensures,
+)
 
 pub held-spec : {M : Type 1} → statement M
 held-spec = tie.close (tie.spec cleared-requires with-hand-requires returns)

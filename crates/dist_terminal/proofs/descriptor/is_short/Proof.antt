@@ -9,8 +9,9 @@ store-short-requires c κs = search needs
 returns : tie.Need-returns
 unfolding short
 returns c = simp (
-    c .if1 .taken,
-    ← c .before .store-short .ensures)
+  c .if1 .taken,
+  ← c .before .store-short .ensures,
+)
 
 block-store-requires : tie.Need-block-store-requires
 block-store-requires c κs = search needs
@@ -18,9 +19,10 @@ block-store-requires c κs = search needs
 returns-2 : tie.Need-returns-2
 unfolding short
 returns-2 c = simp (
-    ← c .block-store .ensures,
-    c .before .if1 .left,
-    ← c .before .before .store-short .ensures)
+  ← c .block-store .ensures,
+  c .before .if1 .left,
+  ← c .before .before .store-short .ensures,
+)
 
 pub is-short-spec : {M : Type 1} → statement M
 is-short-spec = tie.close (tie.spec store-short-requires returns block-store-requires returns-2)

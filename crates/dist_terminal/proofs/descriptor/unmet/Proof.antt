@@ -19,8 +19,9 @@ returns c = simp (c .enum-told .given .1)
 returns-2 : tie.Need-returns-2
 unfolding unmetOf
 returns-2 c = simp (
-    ← c .length-met .ensures,
-    c .before .enum-told2 .given .1)
+  ← c .length-met .ensures,
+  c .before .enum-told2 .given .1,
+)
 
 pub unmet-spec : {M : Type 1} → statement M
 unmet-spec = tie.close (tie.spec enum-told enum-told-2 length-met-requires returns returns-2)

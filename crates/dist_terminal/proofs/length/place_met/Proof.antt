@@ -15,11 +15,11 @@ returns c =
     let past : 26 < 11 + k = omega (arith, c .if1 .taken) in
     let under : 11 ≤ 11 + k = omega arith in
     simp (
-    le-leb _ _ under,
-    lt-leb _ _ past,
-  le-leb _ _ (c .if1 .taken),
-  le-ltb _ _ (c .if1 .taken),
-)
+      le-leb _ _ under,
+      lt-leb _ _ past,
+      le-leb _ _ (c .if1 .taken),
+      le-ltb _ _ (c .if1 .taken),
+    )
 
 cast-subaddress : tie.Need-cast-subaddress
 cast-subaddress c = search needs
@@ -36,11 +36,11 @@ returns-2 c =
     let k = c .before .before .before .args .k in
     let small : k % 256 ≡ k = omega (arith, c .before .before .if1 .left) in
     simp (
-  not-true (c .before .is-marked .result) (c .if2 .taken),
-  ← rw small at (c .before .is-marked .ensures),
-  lt-ltb _ _ (c .before .before .if1 .left),
-  lt-leb _ _ (c .before .before .if1 .left),
-)
+      not-true (c .before .is-marked .result) (c .if2 .taken),
+      ← rw small at (c .before .is-marked .ensures),
+      lt-ltb _ _ (c .before .before .if1 .left),
+      lt-leb _ _ (c .before .before .if1 .left),
+    )
 
 array-read-result : tie.Need-array-read-result
 array-read-result c = search needs
@@ -57,12 +57,12 @@ returns-3 c =
     let k = c .before .before .before .before .before .args .k in
     let small : k % 256 ≡ k = omega (arith, c .before .before .before .before .if1 .left) in
     simp (
-  ← c .message-words .ensures,
-  not-false (c .before .before .before .is-marked .result) (c .before .before .if2 .left),
-  ← rw small at (c .before .before .before .is-marked .ensures),
-  lt-ltb _ _ (c .before .before .before .before .if1 .left),
-  lt-leb _ _ (c .before .before .before .before .if1 .left),
-)
+      ← c .message-words .ensures,
+      not-false (c .before .before .before .is-marked .result) (c .before .before .if2 .left),
+      ← rw small at (c .before .before .before .is-marked .ensures),
+      lt-ltb _ _ (c .before .before .before .before .if1 .left),
+      lt-leb _ _ (c .before .before .before .before .if1 .left),
+    )
 
 pub place-met-spec : {M : Type 1} → statement M
 place-met-spec =

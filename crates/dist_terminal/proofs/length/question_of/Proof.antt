@@ -70,16 +70,16 @@ returns-4 c =
     let r = link-ranges (a .t .link) (sym (m .before .before .is-configured .ensures) ∙ not-false _ (m .before .if1 .left)) in
     let small : a .size % 65536 ≡ a .size = omega arith in
     simp (
-  c .lowest-missing .ensures,
-  c .before .marked .ensures,
-  c .before .before .messages .ensures,
-  small,
-  eq-eqb _ _ (c .before .before .before .if2 .left),
-  c .before .before .before .before .before .enum-told .given .1,
-  ← c .before .before .before .before .before .before .before .size-answer .ensures,
-  c .before .before .before .before .before .before .before .before .if1 .left,
-  ← c .before .before .before .before .before .before .before .before .before .is-configured .ensures,
-)
+      c .lowest-missing .ensures,
+      c .before .marked .ensures,
+      c .before .before .messages .ensures,
+      small,
+      eq-eqb _ _ (c .before .before .before .if2 .left),
+      c .before .before .before .before .before .enum-told .given .1,
+      ← c .before .before .before .before .before .before .before .size-answer .ensures,
+      c .before .before .before .before .before .before .before .before .if1 .left,
+      ← c .before .before .before .before .before .before .before .before .before .is-configured .ensures,
+    )
 
 pub question-of-spec : {M : Type 1} → statement M
 question-of-spec =

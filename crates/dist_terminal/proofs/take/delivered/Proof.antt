@@ -10,8 +10,9 @@ with-hand-requires c κs = search needs
 
 returns : tie.Need-returns
 returns c = simp (
-    c .with-hand .ensures,
-    c .before .before .distribution-confirmation-words .ensures)
+  c .with-hand .ensures,
+  c .before .before .distribution-confirmation-words .ensures,
+)
 
 pub delivered-spec : {M : Type 1} → statement M
 delivered-spec =

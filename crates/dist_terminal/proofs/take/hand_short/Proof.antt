@@ -9,8 +9,9 @@ is-configured-requires c κs = search needs
 returns : tie.Need-returns
 unfolding handShort
 returns c = simp (
-    c .if1 .taken,
-    ← c .before .is-configured .ensures)
+  c .if1 .taken,
+  ← c .before .is-configured .ensures,
+)
 
 block-store-requires : tie.Need-block-store-requires
 block-store-requires c κs = search needs
@@ -18,9 +19,10 @@ block-store-requires c κs = search needs
 returns-2 : tie.Need-returns-2
 unfolding handShort
 returns-2 c = simp (
-    ← c .block-store .ensures,
-    c .before .if1 .left,
-    ← c .before .before .is-configured .ensures)
+  ← c .block-store .ensures,
+  c .before .if1 .left,
+  ← c .before .before .is-configured .ensures,
+)
 
 pub hand-short-spec : {M : Type 1} → statement M
 hand-short-spec =

@@ -12,8 +12,9 @@ hand-short-requires c κs = search needs
 returns : tie.Need-returns
 unfolding bufferAfter takeOf
 returns c = simp (
-    c .if1 .taken,
-    ← c .before .hand-short .ensures) (refl, refl)
+  c .if1 .taken,
+  ← c .before .hand-short .ensures,
+) (refl, refl)
 
 enum-told : tie.Need-enum-told
 enum-told c = search needs
@@ -27,11 +28,12 @@ cast-if2 c = search needs
 returns-2 : tie.Need-returns-2
 unfolding bufferAfter takeOf
 returns-2 c = simp (
-    lt-ltb _ _ (c .if2 .taken),
-    lt-leb _ _ (c .if2 .taken),
-    c .before .before .held .given .1,
-    c .before .before .before .before .if1 .left,
-    ← c .before .before .before .before .before .hand-short .ensures) (refl, refl)
+  lt-ltb _ _ (c .if2 .taken),
+  lt-leb _ _ (c .if2 .taken),
+  c .before .before .held .given .1,
+  c .before .before .before .before .if1 .left,
+  ← c .before .before .before .before .before .hand-short .ensures,
+) (refl, refl)
 
 cast-copy-bytes : tie.Need-cast-copy-bytes
 cast-copy-bytes c = search needs
@@ -45,9 +47,10 @@ delivered-requires c κs = search needs
 returns-3 : tie.Need-returns-3
 unfolding bufferAfter takeOf
 returns-3 c = simp (
-    c .enum-told .given .1,
-    c .before .before .if1 .left,
-    ← c .before .before .before .hand-short .ensures) (refl, refl)
+  c .enum-told .given .1,
+  c .before .before .if1 .left,
+  ← c .before .before .before .hand-short .ensures,
+) (refl, refl)
 
 same-length : tie.Need-same-length
 same-length c = search needs
@@ -55,13 +58,14 @@ same-length c = search needs
 returns-4 : tie.Need-returns-4
 unfolding bufferAfter takeOf
 returns-4 c = simp (
-    c .delivered .ensures,
-    c .before .before .before .copy-bytes .ensures,
-    le-leb _ _ (c .before .before .before .before .before .if2 .left),
-    le-ltb _ _ (c .before .before .before .before .before .if2 .left),
-    c .before .before .before .before .before .before .before .held .given .1,
-    c .before .before .before .before .before .before .before .before .before .if1 .left,
-    ← c .before .before .before .before .before .before .before .before .before .before .hand-short .ensures) (refl, refl)
+  c .delivered .ensures,
+  c .before .before .before .copy-bytes .ensures,
+  le-leb _ _ (c .before .before .before .before .before .if2 .left),
+  le-ltb _ _ (c .before .before .before .before .before .if2 .left),
+  c .before .before .before .before .before .before .before .held .given .1,
+  c .before .before .before .before .before .before .before .before .before .if1 .left,
+  ← c .before .before .before .before .before .before .before .before .before .before .hand-short .ensures,
+) (refl, refl)
 
 pub take-block-spec : {M : Type 1} → statement M
 take-block-spec =

@@ -12,25 +12,28 @@ is-configured-requires c κs = search needs
 returns : tie.Need-returns
 unfolding shownAfter transmitOf
 returns c = simp (
-    c .if1 .taken,
-    ← c .before .is-configured .ensures) (refl, refl)
+  c .if1 .taken,
+  ← c .before .is-configured .ensures,
+) (refl, refl)
 
 returns-2 : tie.Need-returns-2
 unfolding shownAfter transmitOf
 returns-2 c = simp (
-    lt-ltb _ _ (c .if2 .taken),
-    lt-leb _ _ (c .if2 .taken),
-    c .before .if1 .left,
-    ← c .before .before .is-configured .ensures) (refl, refl)
+  lt-ltb _ _ (c .if2 .taken),
+  lt-leb _ _ (c .if2 .taken),
+  c .before .if1 .left,
+  ← c .before .before .is-configured .ensures,
+) (refl, refl)
 
 returns-3 : tie.Need-returns-3
 unfolding shownAfter transmitOf
 returns-3 c = simp (
-    ne-eqb _ _ (c .if3 .taken),
-    le-leb _ _ (c .before .if2 .left),
-    le-ltb _ _ (c .before .if2 .left),
-    c .before .before .if1 .left,
-    ← c .before .before .before .is-configured .ensures) (refl, refl)
+  ne-eqb _ _ (c .if3 .taken),
+  le-leb _ _ (c .before .if2 .left),
+  le-ltb _ _ (c .before .if2 .left),
+  c .before .before .if1 .left,
+  ← c .before .before .before .is-configured .ensures,
+) (refl, refl)
 
 slice-write-out : tie.Need-slice-write-out
 slice-write-out c = search needs
@@ -44,11 +47,12 @@ same-length c = search needs
 returns-4 : tie.Need-returns-4
 unfolding shownAfter transmitOf
 returns-4 c = simp (
-    eq-eqb _ _ (c .if3 .left),
-    le-leb _ _ (c .before .if2 .left),
-    le-ltb _ _ (c .before .if2 .left),
-    c .before .before .if1 .left,
-    ← c .before .before .before .is-configured .ensures) (refl, refl)
+  eq-eqb _ _ (c .if3 .left),
+  le-leb _ _ (c .before .if2 .left),
+  le-ltb _ _ (c .before .if2 .left),
+  c .before .before .if1 .left,
+  ← c .before .before .before .is-configured .ensures,
+) (refl, refl)
 
 pub transmit-spec : {M : Type 1} → statement M
 transmit-spec =

@@ -1,0 +1,85 @@
+use Rattle.dist_terminal.proofs.Ready.{fits}
+use Rattle.dist_terminal.specs.Calls.{configuringOf}
+use Rattle.dist_terminal.specs.Calls.{storeConfigured}
+use mathlib.Core.Path.{refl, sym, _∙_}
+use borrow.Author.Needs.{needs}
+use Rattle.dist_terminal.proofs.calls.configure.Statement.{statement}
+use Rattle.dist_terminal.proofs.calls.configure.Tie as tie
+
+configure-requires : tie.Need-configure-requires
+configure-requires c κs = search needs
+
+enum-known-configuring : tie.Need-enum-known-configuring
+enum-known-configuring c = search needs
+
+refuse-requires : tie.Need-refuse-requires
+refuse-requires c κs = search needs
+
+enum-known-configuring-2 : tie.Need-enum-known-configuring-2
+enum-known-configuring-2 c = search needs
+
+unfit-requires : tie.Need-unfit-requires
+unfit-requires c κs = search needs
+
+refuse-requires-2 : tie.Need-refuse-requires-2
+refuse-requires-2 c κs = search needs
+
+returns : tie.Need-returns
+unfolding configuringOf storeConfigured
+returns c = simp (
+  c .refuse2 .ensures,
+  c .before .if1 .taken,
+  ← c .before .before .unfit .ensures,
+  c .before .before .before .before .configuring2 .given .1,
+  ← c .before .before .before .before .before .before .configure .ensures,
+) (refl, refl)
+
+empty-places-requires : tie.Need-empty-places-requires
+empty-places-requires c κs = fits _ _ _ (sym (c .before .before .unfit .ensures) ∙ c .before .if1 .left)
+
+fresh-requires : tie.Need-fresh-requires
+fresh-requires c κs = search needs
+
+accept-requires : tie.Need-accept-requires
+accept-requires c κs = search needs
+
+returns-2 : tie.Need-returns-2
+unfolding configuringOf storeConfigured
+returns-2 c = simp (
+  c .refuse .ensures,
+  c .before .before .configuring .given .1,
+  ← c .before .before .before .before .configure .ensures,
+) (refl, refl)
+
+same-length : tie.Need-same-length
+same-length c = search needs
+
+returns-3 : tie.Need-returns-3
+unfolding configuringOf storeConfigured
+returns-3 c = simp (
+  c .accept .ensures,
+  c .before .fresh .ensures,
+  c .before .before .before .before .empty-places .ensures,
+  c .before .before .before .before .before .before .if1 .left,
+  ← c .before .before .before .before .before .before .before .unfit .ensures,
+  c .before .before .before .before .before .before .before .before .before .configuring2 .given .1,
+  ← c .before .before .before .before .before .before .before .before .before .before .before .configure .ensures,
+) (refl, refl)
+
+pub configure-spec : {M : Type 1} → statement M
+configure-spec =
+    tie.close
+    (tie.spec
+    configure-requires
+    enum-known-configuring
+    refuse-requires
+    enum-known-configuring-2
+    unfit-requires
+    refuse-requires-2
+    returns
+    empty-places-requires
+    fresh-requires
+    accept-requires
+    returns-2
+    same-length
+    returns-3)
