@@ -1,0 +1,7 @@
+pub mod Reading
+pub mod Putting
+pub mod Back
+pub mod Decimal
+pub mod Lines
+pub mod Examples
+pub mod Uses
