@@ -46,6 +46,13 @@ wordsIn CutResetting c store = listOf resetWords
 unfoldable pub wordsAsked : Controller → List ℕ → List ℕ
 wordsAsked c store = wordsIn (c .phase) c store
 
+-- how many words, and the buffer with them at its start, where it has room for any message
+unfoldable pub wordsCount : Controller → List ℕ → ℕ → ℕ
+wordsCount c store out = cond (ltb out 32) 0 (length (wordsAsked c store))
+
+unfoldable pub wordsAfter : Controller → List ℕ → List ℕ → List ℕ
+wordsAfter c store out = cond (ltb (length out) 32) out (sets out 0 (wordsAsked c store))
+
 -- 1: a buffer without room for any message is too short
 abbrev pub unreadable : Controller → ℕ → ℕ → Bool
 unreadable c store out = shortOf (c .link) store || ltb out 32

@@ -38,7 +38,7 @@ returns-3 : tie.Need-returns-3
 unfolding bufferAfter messageOf
 returns-3 c = simp (
   c .asked-for .ensures,
-  c .before .before .before .put-words .ensures,
+  ← c .before .before .before .put-words .ensures .1,
   le-leb _ _ (c .before .before .before .before .before .if2 .left),
   le-ltb _ _ (c .before .before .before .before .before .if2 .left),
   c .before .before .before .before .before .before .if1 .left,

@@ -1,7 +1,9 @@
 use borrow.Author.Tests.{le-leb, le-ltb, lt-leb, lt-ltb}
 use borrow.Author.Needs.{needs}
+use mathlib.Core.Path.{refl, _∙_}
 use Rattle.stores.specs.Reading.{messageReadOf, readOf}
 use Rattle.dist_controller.specs.Message.{transferWordsAt}
+use Rattle.dist_controller.proofs.Counted.{read-count}
 use Rattle.dist_controller.proofs.message.put_transfer_words.Statement.{statement}
 use Rattle.dist_controller.proofs.message.put_transfer_words.Tie as tie
 
@@ -25,13 +27,16 @@ same-length c = search needs
 
 returns : tie.Need-returns
 unfolding transferWordsAt messageReadOf readOf
-returns c = simp (
-  c .before .before .read-message .ensures .1,
-  lt-ltb _ _ (c .before .before .before .before .if1 .taken),
-  lt-leb _ _ (c .before .before .before .before .if1 .taken),
-  ← c .before .before .before .before .before .messages .ensures,
-  ← c .before .before .before .before .before .before .last .ensures,
-)
+returns c =
+    let m = c .before .before in
+    let k = m .before .before .before in
+    let a = k .before .before .before .before .args in
+    simp (
+      lt-ltb _ _ (m .before .before .if1 .taken),
+      ← k .messages .ensures,
+      ← k .before .last .ensures,
+    )
+    (m .read-message .ensures .0 ∙ read-count _ (a .store .now) _ _ (k .before .before .before .before .pre), m .read-message .ensures .1)
 
 returns-2 : tie.Need-returns-2
 unfolding transferWordsAt
@@ -42,7 +47,7 @@ returns-2 c = simp (
   le-ltb _ _ (c .before .if1 .left),
   ← c .before .before .messages .ensures,
   ← c .before .before .before .last .ensures,
-)
+) (refl, refl)
 
 descriptor-words-requires : tie.Need-descriptor-words-requires
 descriptor-words-requires c κs = search needs
@@ -55,16 +60,16 @@ same-length-2 c = search needs
 
 returns-3 : tie.Need-returns-3
 unfolding transferWordsAt
-returns-3 c = simp (
-  c .before .before .put-two .ensures,
-  c .before .before .before .descriptor-words .ensures,
-  le-leb _ _ (c .before .before .before .before .before .before .if2 .left),
-  le-ltb _ _ (c .before .before .before .before .before .before .if2 .left),
-  le-leb _ _ (c .before .before .before .before .before .before .before .if1 .left),
-  le-ltb _ _ (c .before .before .before .before .before .before .before .if1 .left),
-  ← c .before .before .before .before .before .before .before .before .messages .ensures,
-  ← c .before .before .before .before .before .before .before .before .before .last .ensures,
-)
+returns-3 c =
+    let p = c .before .before .put-two .ensures in
+    simp (
+      le-leb _ _ (c .before .before .before .before .before .before .if2 .left),
+      le-ltb _ _ (c .before .before .before .before .before .before .if2 .left),
+      le-leb _ _ (c .before .before .before .before .before .before .before .if1 .left),
+      le-ltb _ _ (c .before .before .before .before .before .before .before .if1 .left),
+      ← c .before .before .before .before .before .before .before .before .messages .ensures,
+      ← c .before .before .before .before .before .before .before .before .before .last .ensures,
+    ) (p .0, rw (c .before .before .before .descriptor-words .ensures) at (p .1))
 
 pub put-transfer-words-spec : {M : Type 1} → statement M
 put-transfer-words-spec =
