@@ -48,7 +48,10 @@ fn catch(p: Pair) -> Stepped
 {
     let terminal = p.terminal;
     let shown = terminal.shown;
-    answer_with(with_terminal(p, terminal, Flight::Caught(shown)), Answer::Accepted)
+    answer_with(
+        with_terminal(p, terminal, Flight::Caught(shown)),
+        Answer::Accepted,
+    )
 }
 
 fn has_arrived(flight: Flight) -> bool
@@ -98,7 +101,10 @@ fn tell(p: Pair, outcome: Outcome, words: &[u16]) -> Stepped
         Answer::Refused(n) => refuse(n, p),
         Answer::Accepted => {
             let controller = s.controller;
-            answer_with(with_controller(p, controller, Flight::NotArrived), Answer::Accepted)
+            answer_with(
+                with_controller(p, controller, Flight::NotArrived),
+                Answer::Accepted,
+            )
         }
     }
 }

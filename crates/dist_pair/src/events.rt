@@ -68,7 +68,10 @@ pub fn restart_controller(p: Pair) -> Stepped
         Answer::Refused(n) => refuse(n, p),
         Answer::Accepted => {
             let controller = s.controller;
-            answer_with(with_controller(p, controller, Flight::NotArrived), Answer::Accepted)
+            answer_with(
+                with_controller(p, controller, Flight::NotArrived),
+                Answer::Accepted,
+            )
         }
     }
 }
@@ -96,16 +99,43 @@ pub fn take_block(p: Pair, hand: &[u8], buffer: &mut [u8]) -> Taken
 }
 
 // Both ends are configured alike, or neither is.
-pub fn configure(p: Pair, address: u32, mode: u32, subaddress: u32, largest: u32, window: u32, store: usize, places: &mut [u8], hand: usize) -> Stepped
+pub fn configure(
+    p: Pair,
+    address: u32,
+    mode: u32,
+    subaddress: u32,
+    largest: u32,
+    window: u32,
+    store: usize,
+    places: &mut [u8],
+    hand: usize,
+) -> Stepped
     ensures result { λ r. ⌜ r ≡ configureOf p address mode subaddress largest window store (length (now (places .entry))) hand ⌝ }
     ensures bytes { λ _. ⌜ now (places .exit) ≡ placesConfigured p address mode subaddress largest window store (now (places .entry)) hand ⌝ }
 {
-    let s = dist_controller::report::configure(p.controller, address, mode, subaddress, largest, window, store);
+    let s = dist_controller::report::configure(
+        p.controller,
+        address,
+        mode,
+        subaddress,
+        largest,
+        window,
+        store,
+    );
     let answer = s.answer;
     match answer {
         Answer::Refused(n) => refuse(n, p),
         Answer::Accepted => {
-            let t = dist_terminal::calls::configure(p.terminal, address, mode, subaddress, largest, window, places, hand);
+            let t = dist_terminal::calls::configure(
+                p.terminal,
+                address,
+                mode,
+                subaddress,
+                largest,
+                window,
+                places,
+                hand,
+            );
             let answered = t.answer;
             match answered {
                 Answer::Refused(n) => refuse(n, p),

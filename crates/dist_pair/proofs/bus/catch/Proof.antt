@@ -1,0 +1,18 @@
+use borrow.Author.Needs.{needs}
+use Rattle.dist_pair.proofs.bus.catch.Statement.{statement}
+use Rattle.dist_pair.proofs.bus.catch.Tie as tie
+
+with-terminal-requires : tie.Need-with-terminal-requires
+with-terminal-requires c κs = search needs
+
+answer-with-requires : tie.Need-answer-with-requires
+answer-with-requires c κs = search needs
+
+returns : tie.Need-returns
+returns c = simp (
+  c .answer-with .ensures,
+  c .before .with-terminal .ensures,
+)
+
+pub catch-spec : {M : Type 1} → statement M
+catch-spec = tie.close (tie.spec with-terminal-requires answer-with-requires returns)
