@@ -1,0 +1,54 @@
+use Rattle.blockrun_lines.proofs.Put.{and-then}
+use Rattle.blockrun_lines.specs.Lines.{noText, startText}
+use Rattle.blockrun_text.specs.Printing.{decimalOf}
+use borrow.Author.Needs.{needs}
+use mathlib.Core.List.{[], _∷_, _++_}
+use Rattle.blockrun_lines.proofs.print.put_no.Statement.{statement}
+use Rattle.blockrun_lines.proofs.print.put_no.Tie as tie
+
+put-start-requires : tie.Need-put-start-requires
+put-start-requires c κs = search needs
+
+slice-aggregate-put-text : tie.Need-slice-aggregate-put-text
+slice-aggregate-put-text c = search needs
+
+put-text-requires : tie.Need-put-text-requires
+put-text-requires c κs = search needs
+
+put-decimal-requires : tie.Need-put-decimal-requires
+put-decimal-requires c κs = search needs
+
+slice-aggregate-put-text-2 : tie.Need-slice-aggregate-put-text-2
+slice-aggregate-put-text-2 c = search needs
+
+put-text-requires-2 : tie.Need-put-text-requires-2
+put-text-requires-2 c κs = search needs
+
+same-length : tie.Need-same-length
+same-length c = search needs
+
+returns : tie.Need-returns
+unfolding noText
+returns c =
+    let a = c .before .before .before .before .before .before .before .before .before .before .before .before .before .before .before .before .before .before .before .args in
+    let s0 = c .before .before .before .before .before .before .before .before .before .before .before .before .before .before .before .before .put-start in
+    let s1 = c .before .before .before .before .before .before .before .before .before .before .before .put-text in
+    let s2 = c .before .before .before .before .before .before .before .put-decimal in
+    let s3 = c .before .before .put-text2 in
+    and-then (a .out .now) (s0 .last .0) (s3 .last .0) (startText (a .number)) ((110 ∷ 111 ∷ 9 ∷ []) ++ ((decimalOf (a .refusal)) ++ (10 ∷ []))) (a .at) (s0 .result) (s3 .result) (s0 .ensures)
+    (and-then (s0 .last .0) (s1 .last .0) (s3 .last .0) (110 ∷ 111 ∷ 9 ∷ []) ((decimalOf (a .refusal)) ++ (10 ∷ [])) (s0 .result) (s1 .result) (s3 .result) (s1 .ensures)
+    (and-then (s1 .last .0) (s2 .last .0) (s3 .last .0) (decimalOf (a .refusal)) (10 ∷ []) (s1 .result) (s2 .result) (s3 .result) (s2 .ensures)
+    (s3 .ensures)))
+
+pub put-no-spec : {M : Type 1} → statement M
+put-no-spec =
+    tie.close
+    (tie.spec
+    put-start-requires
+    slice-aggregate-put-text
+    put-text-requires
+    put-decimal-requires
+    slice-aggregate-put-text-2
+    put-text-requires-2
+    same-length
+    returns)
