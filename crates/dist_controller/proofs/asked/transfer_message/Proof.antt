@@ -4,15 +4,6 @@ use borrow.Author.Needs.{needs}
 use Rattle.dist_controller.proofs.asked.transfer_message.Statement.{statement}
 use Rattle.dist_controller.proofs.asked.transfer_message.Tie as tie
 
-messages-requires : tie.Need-messages-requires
-messages-requires c κs = search needs
-
-message-subaddress-requires : tie.Need-message-subaddress-requires
-message-subaddress-requires c κs = search needs
-
-message-words-requires : tie.Need-message-words-requires
-message-words-requires c κs = search needs
-
 returns : tie.Need-returns
 unfolding transferMessage
 returns c = simp (
@@ -45,9 +36,9 @@ pub transfer-message-spec : {M : Type 1} → statement M
 transfer-message-spec =
     tie.close
     (tie.spec
-    messages-requires
-    message-subaddress-requires
-    message-words-requires
+    (λ c κs. search needs)
+    (λ c κs. search needs)
+    (λ c κs. search needs)
     returns
     returns-2
     returns-3)

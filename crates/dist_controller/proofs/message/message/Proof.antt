@@ -6,9 +6,6 @@ use borrow.Author.Needs.{needs}
 use Rattle.dist_controller.proofs.message.message.Statement.{statement}
 use Rattle.dist_controller.proofs.message.message.Tie as tie
 
-short-requires : tie.Need-short-requires
-short-requires c κs = search needs
-
 returns : tie.Need-returns
 unfolding bufferAfter messageOf
 returns c = simp (
@@ -25,15 +22,6 @@ returns-2 c = simp (
   ← c .before .before .short .ensures,
 ) (refl, refl)
 
-put-words-requires : tie.Need-put-words-requires
-put-words-requires c κs = search needs
-
-asked-for-requires : tie.Need-asked-for-requires
-asked-for-requires c κs = search needs
-
-same-length : tie.Need-same-length
-same-length c = search needs
-
 returns-3 : tie.Need-returns-3
 unfolding bufferAfter messageOf
 returns-3 c = simp (
@@ -49,10 +37,10 @@ pub message-spec : {M : Type 1} → statement M
 message-spec =
     tie.close
     (tie.spec
-    short-requires
+    (λ c κs. search needs)
     returns
     returns-2
-    put-words-requires
-    asked-for-requires
-    same-length
+    (λ c κs. search needs)
+    (λ c κs. search needs)
+    (λ c. search needs)
     returns-3)

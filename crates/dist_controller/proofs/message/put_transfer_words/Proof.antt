@@ -5,24 +5,6 @@ use Rattle.dist_controller.specs.Message.{transferWordsAt}
 use Rattle.dist_controller.proofs.message.put_transfer_words.Statement.{statement}
 use Rattle.dist_controller.proofs.message.put_transfer_words.Tie as tie
 
-last-requires : tie.Need-last-requires
-last-requires c κs = search needs
-
-messages-requires : tie.Need-messages-requires
-messages-requires c κs = search needs
-
-cast-read-message : tie.Need-cast-read-message
-cast-read-message c = search needs
-
-cast-read-message-2 : tie.Need-cast-read-message-2
-cast-read-message-2 c = search needs
-
-read-message-requires : tie.Need-read-message-requires
-read-message-requires c κs = search needs
-
-same-length : tie.Need-same-length
-same-length c = search needs
-
 returns : tie.Need-returns
 unfolding transferWordsAt messageReadOf readOf
 returns c = simp (
@@ -44,15 +26,6 @@ returns-2 c = simp (
   ← c .before .before .before .last .ensures,
 )
 
-descriptor-words-requires : tie.Need-descriptor-words-requires
-descriptor-words-requires c κs = search needs
-
-put-two-requires : tie.Need-put-two-requires
-put-two-requires c κs = search needs
-
-same-length-2 : tie.Need-same-length-2
-same-length-2 c = search needs
-
 returns-3 : tie.Need-returns-3
 unfolding transferWordsAt
 returns-3 c = simp (
@@ -70,15 +43,15 @@ pub put-transfer-words-spec : {M : Type 1} → statement M
 put-transfer-words-spec =
     tie.close
     (tie.spec
-    last-requires
-    messages-requires
-    cast-read-message
-    cast-read-message-2
-    read-message-requires
-    same-length
+    (λ c κs. search needs)
+    (λ c κs. search needs)
+    (λ c. search needs)
+    (λ c. search needs)
+    (λ c κs. search needs)
+    (λ c. search needs)
     returns
     returns-2
-    descriptor-words-requires
-    put-two-requires
-    same-length-2
+    (λ c κs. search needs)
+    (λ c κs. search needs)
+    (λ c. search needs)
     returns-3)

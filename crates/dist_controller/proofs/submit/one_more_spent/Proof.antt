@@ -11,9 +11,6 @@ returns c = simp (
   le-ltb _ _ (c .if1 .taken),
 )
 
-add-result : tie.Need-add-result
-add-result c = search needs
-
 returns-2 : tie.Need-returns-2
 unfolding oneMoreSpent
 returns-2 c = simp (
@@ -22,4 +19,4 @@ returns-2 c = simp (
 )
 
 pub one-more-spent-spec : {M : Type 1} → statement M
-one-more-spent-spec = tie.close (tie.spec returns add-result returns-2)
+one-more-spent-spec = tie.close (tie.spec returns (λ c. search needs) returns-2)

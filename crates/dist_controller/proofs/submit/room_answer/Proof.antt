@@ -4,9 +4,6 @@ use borrow.Author.Needs.{needs}
 use Rattle.dist_controller.proofs.submit.room_answer.Statement.{statement}
 use Rattle.dist_controller.proofs.submit.room_answer.Tie as tie
 
-is-open-requires : tie.Need-is-open-requires
-is-open-requires c κs = search needs
-
 returns : tie.Need-returns
 unfolding roomAnswerOf
 returns c = simp (
@@ -33,4 +30,4 @@ returns-3 c = simp (
 )
 
 pub room-answer-spec : {M : Type 1} → statement M
-room-answer-spec = tie.close (tie.spec is-open-requires returns returns-2 returns-3)
+room-answer-spec = tie.close (tie.spec (λ c κs. search needs) returns returns-2 returns-3)

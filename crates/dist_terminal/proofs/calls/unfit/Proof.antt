@@ -4,9 +4,6 @@ use borrow.Author.Needs.{needs}
 use Rattle.dist_terminal.proofs.calls.unfit.Statement.{statement}
 use Rattle.dist_terminal.proofs.calls.unfit.Tie as tie
 
-message-store-requires : tie.Need-message-store-requires
-message-store-requires c κs = search needs
-
 returns : tie.Need-returns
 unfolding unfitOf
 returns c = simp (
@@ -14,9 +11,6 @@ returns c = simp (
   lt-leb _ _ (c .if1 .taken),
   ← c .before .message-store .ensures,
 )
-
-block-store-requires : tie.Need-block-store-requires
-block-store-requires c κs = search needs
 
 returns-2 : tie.Need-returns-2
 unfolding unfitOf
@@ -28,4 +22,4 @@ returns-2 c = simp (
 )
 
 pub unfit-spec : {M : Type 1} → statement M
-unfit-spec = tie.close (tie.spec message-store-requires returns block-store-requires returns-2)
+unfit-spec = tie.close (tie.spec (λ c κs. search needs) returns (λ c κs. search needs) returns-2)

@@ -21,15 +21,6 @@ returns c =
       le-ltb _ _ (c .if1 .taken),
     )
 
-cast-subaddress : tie.Need-cast-subaddress
-cast-subaddress c = search needs
-
-add-subaddress : tie.Need-add-subaddress
-add-subaddress c = search needs
-
-is-marked-requires : tie.Need-is-marked-requires
-is-marked-requires c κs = search needs
-
 returns-2 : tie.Need-returns-2
 unfolding placeMet
 returns-2 c =
@@ -41,15 +32,6 @@ returns-2 c =
       lt-ltb _ _ (c .before .before .if1 .left),
       lt-leb _ _ (c .before .before .if1 .left),
     )
-
-array-read-result : tie.Need-array-read-result
-array-read-result c = search needs
-
-cast-result : tie.Need-cast-result
-cast-result c = search needs
-
-message-words-requires : tie.Need-message-words-requires
-message-words-requires c κs = search needs
 
 returns-3 : tie.Need-returns-3
 unfolding placeMet
@@ -69,11 +51,11 @@ place-met-spec =
     tie.close
     (tie.spec
     returns
-    cast-subaddress
-    add-subaddress
-    is-marked-requires
+    (λ c. search needs)
+    (λ c. search needs)
+    (λ c κs. search needs)
     returns-2
-    array-read-result
-    cast-result
-    message-words-requires
+    (λ c. search needs)
+    (λ c. search needs)
+    (λ c κs. search needs)
     returns-3)

@@ -6,9 +6,6 @@ use borrow.Author.Needs.{needs}
 use Rattle.dist_terminal.proofs.take.transmit.Statement.{statement}
 use Rattle.dist_terminal.proofs.take.transmit.Tie as tie
 
-is-configured-requires : tie.Need-is-configured-requires
-is-configured-requires c κs = search needs
-
 returns : tie.Need-returns
 unfolding shownAfter transmitOf
 returns c = simp (
@@ -35,15 +32,6 @@ returns-3 c = simp (
   ← c .before .before .before .is-configured .ensures,
 ) (refl, refl)
 
-slice-write-out : tie.Need-slice-write-out
-slice-write-out c = search needs
-
-slice-write-out-2 : tie.Need-slice-write-out-2
-slice-write-out-2 c = search needs
-
-same-length : tie.Need-same-length
-same-length c = search needs
-
 returns-4 : tie.Need-returns-4
 unfolding shownAfter transmitOf
 returns-4 c = simp (
@@ -58,11 +46,11 @@ pub transmit-spec : {M : Type 1} → statement M
 transmit-spec =
     tie.close
     (tie.spec
-    is-configured-requires
+    (λ c κs. search needs)
     returns
     returns-2
     returns-3
-    slice-write-out
-    slice-write-out-2
-    same-length
+    (λ c. search needs)
+    (λ c. search needs)
+    (λ c. search needs)
     returns-4)
