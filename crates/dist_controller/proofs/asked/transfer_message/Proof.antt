@@ -1,4 +1,4 @@
-use borrow.Author.Tests.{eq-eqb, le-leb, le-ltb, lt-leb, lt-ltb, ne-eqb}
+use borrow.Author.Tests.{eq-eqb, le-ltb, lt-ltb, ne-eqb}
 use Rattle.dist_controller.specs.Asked.{transferMessage}
 use borrow.Author.Needs.{needs}
 use Rattle.dist_controller.proofs.asked.transfer_message.Statement.{statement}
@@ -10,7 +10,6 @@ returns c = simp (
   ← c .message-words .ensures,
   ← c .before .message-subaddress .ensures,
   lt-ltb _ _ (c .before .before .if1 .taken),
-  lt-leb _ _ (c .before .before .if1 .taken),
   ← c .before .before .before .messages .ensures,
 )
 
@@ -18,7 +17,6 @@ returns-2 : tie.Need-returns-2
 unfolding transferMessage
 returns-2 c = simp (
   eq-eqb _ _ (c .if2 .taken),
-  le-leb _ _ (c .before .if1 .left),
   le-ltb _ _ (c .before .if1 .left),
   ← c .before .before .messages .ensures,
 )
@@ -27,7 +25,6 @@ returns-3 : tie.Need-returns-3
 unfolding transferMessage
 returns-3 c = simp (
   ne-eqb _ _ (c .if2 .left),
-  le-leb _ _ (c .before .if1 .left),
   le-ltb _ _ (c .before .if1 .left),
   ← c .before .before .messages .ensures,
 )

@@ -1,4 +1,4 @@
-use borrow.Author.Tests.{le-leb, le-ltb, lt-leb, lt-ltb}
+use borrow.Author.Tests.{le-ltb, lt-ltb}
 use Rattle.dist_controller.specs.Message.{bufferAfter}
 use Rattle.dist_controller.specs.Message.{messageOf}
 use mathlib.Core.Path.{refl}
@@ -17,7 +17,6 @@ returns-2 : tie.Need-returns-2
 unfolding bufferAfter messageOf
 returns-2 c = simp (
   lt-ltb _ _ (c .if2 .taken),
-  lt-leb _ _ (c .if2 .taken),
   c .before .if1 .left,
   ← c .before .before .short .ensures,
 ) (refl, refl)
@@ -27,7 +26,6 @@ unfolding bufferAfter messageOf
 returns-3 c = simp (
   c .asked-for .ensures,
   c .before .before .before .put-words .ensures,
-  le-leb _ _ (c .before .before .before .before .before .if2 .left),
   le-ltb _ _ (c .before .before .before .before .before .if2 .left),
   c .before .before .before .before .before .before .if1 .left,
   ← c .before .before .before .before .before .before .before .short .ensures,

@@ -1,4 +1,4 @@
-use borrow.Author.Tests.{le-leb, le-ltb, lt-leb, lt-ltb}
+use borrow.Author.Tests.{le-ltb, lt-ltb}
 use borrow.Author.Needs.{needs}
 use Rattle.stores.specs.Reading.{messageReadOf, readOf}
 use Rattle.dist_controller.specs.Message.{transferWordsAt}
@@ -10,7 +10,6 @@ unfolding transferWordsAt messageReadOf readOf
 returns c = simp (
   c .before .before .read-message .ensures .1,
   lt-ltb _ _ (c .before .before .before .before .if1 .taken),
-  lt-leb _ _ (c .before .before .before .before .if1 .taken),
   ← c .before .before .before .before .before .messages .ensures,
   ← c .before .before .before .before .before .before .last .ensures,
 )
@@ -19,8 +18,6 @@ returns-2 : tie.Need-returns-2
 unfolding transferWordsAt
 returns-2 c = simp (
   lt-ltb _ _ (c .if2 .taken),
-  lt-leb _ _ (c .if2 .taken),
-  le-leb _ _ (c .before .if1 .left),
   le-ltb _ _ (c .before .if1 .left),
   ← c .before .before .messages .ensures,
   ← c .before .before .before .last .ensures,
@@ -31,9 +28,7 @@ unfolding transferWordsAt
 returns-3 c = simp (
   c .before .before .put-two .ensures,
   c .before .before .before .descriptor-words .ensures,
-  le-leb _ _ (c .before .before .before .before .before .before .if2 .left),
   le-ltb _ _ (c .before .before .before .before .before .before .if2 .left),
-  le-leb _ _ (c .before .before .before .before .before .before .before .if1 .left),
   le-ltb _ _ (c .before .before .before .before .before .before .before .if1 .left),
   ← c .before .before .before .before .before .before .before .before .messages .ensures,
   ← c .before .before .before .before .before .before .before .before .before .last .ensures,

@@ -1,4 +1,4 @@
-use borrow.Author.Tests.{le-leb, le-ltb, lt-leb, lt-ltb}
+use borrow.Author.Tests.{le-ltb, lt-ltb}
 use Rattle.dist_controller.specs.Report.{configuringOf}
 use borrow.Author.Needs.{needs}
 use Rattle.dist_controller.proofs.report.configure.Statement.{statement}
@@ -9,7 +9,6 @@ unfolding configuringOf
 returns c = simp (
   c .refuse2 .ensures,
   lt-ltb _ _ (c .before .if1 .taken),
-  lt-leb _ _ (c .before .if1 .taken),
   ← c .before .before .block-store .ensures,
   c .before .before .before .before .configuring2 .given .1,
   ← c .before .before .before .before .before .before .configure .ensures,
@@ -28,7 +27,6 @@ unfolding configuringOf
 returns-3 c = simp (
   c .accept .ensures,
   c .before .fresh .ensures,
-  le-leb _ _ (c .before .before .if1 .left),
   le-ltb _ _ (c .before .before .if1 .left),
   ← c .before .before .before .block-store .ensures,
   c .before .before .before .before .before .configuring2 .given .1,

@@ -1,4 +1,4 @@
-use borrow.Author.Tests.{le-leb, le-ltb, lt-leb, lt-ltb}
+use borrow.Author.Tests.{le-leb, lt-leb}
 use Rattle.dist_controller.specs.Submit.{roomAnswerOf}
 use borrow.Author.Needs.{needs}
 use Rattle.dist_controller.proofs.submit.room_answer.Statement.{statement}
@@ -15,7 +15,6 @@ returns-2 : tie.Need-returns-2
 unfolding roomAnswerOf
 returns-2 c = simp (
   le-leb _ _ (c .if2 .taken),
-  le-ltb _ _ (c .if2 .taken),
   c .before .before .if1 .left,
   ← c .before .before .before .is-open .ensures,
 )
@@ -23,7 +22,6 @@ returns-2 c = simp (
 returns-3 : tie.Need-returns-3
 unfolding roomAnswerOf
 returns-3 c = simp (
-  lt-ltb _ _ (c .if2 .left),
   lt-leb _ _ (c .if2 .left),
   c .before .before .if1 .left,
   ← c .before .before .before .is-open .ensures,

@@ -1,4 +1,4 @@
-use borrow.Author.Tests.{le-leb, le-ltb, lt-leb, lt-ltb}
+use borrow.Author.Tests.{le-ltb, lt-ltb}
 use Rattle.dist_controller.specs.Told.{sentOf}
 use borrow.Author.Needs.{needs}
 use Rattle.dist_controller.proofs.told.sent.Statement.{statement}
@@ -9,7 +9,6 @@ unfolding sentOf
 returns c = simp (
   c .told-now .ensures,
   lt-ltb _ _ (c .before .if1 .taken),
-  lt-leb _ _ (c .before .if1 .taken),
   ← c .before .before .before .messages .ensures,
 )
 
@@ -19,7 +18,6 @@ returns-2 c = simp (
   c .ended .ensures,
   c .before .if2 .taken,
   ← c .before .before .stops .ensures,
-  le-leb _ _ (c .before .before .before .before .if1 .left),
   le-ltb _ _ (c .before .before .before .before .if1 .left),
   ← c .before .before .before .before .before .before .messages .ensures,
 )
@@ -30,7 +28,6 @@ returns-3 c = simp (
   c .one-more .ensures,
   c .before .if2 .left,
   ← c .before .before .stops .ensures,
-  le-leb _ _ (c .before .before .before .before .if1 .left),
   le-ltb _ _ (c .before .before .before .before .if1 .left),
   ← c .before .before .before .before .before .before .messages .ensures,
 )

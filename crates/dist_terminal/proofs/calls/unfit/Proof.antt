@@ -1,4 +1,4 @@
-use borrow.Author.Tests.{le-leb, le-ltb, lt-leb, lt-ltb}
+use borrow.Author.Tests.{le-ltb, lt-ltb}
 use Rattle.dist_terminal.specs.Calls.{unfitOf}
 use borrow.Author.Needs.{needs}
 use Rattle.dist_terminal.proofs.calls.unfit.Statement.{statement}
@@ -8,7 +8,6 @@ returns : tie.Need-returns
 unfolding unfitOf
 returns c = simp (
   lt-ltb _ _ (c .if1 .taken),
-  lt-leb _ _ (c .if1 .taken),
   ← c .before .message-store .ensures,
 )
 
@@ -16,7 +15,6 @@ returns-2 : tie.Need-returns-2
 unfolding unfitOf
 returns-2 c = simp (
   ← c .block-store .ensures,
-  le-leb _ _ (c .before .if1 .left),
   le-ltb _ _ (c .before .if1 .left),
   ← c .before .before .message-store .ensures,
 )

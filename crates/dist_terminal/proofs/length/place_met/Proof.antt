@@ -1,4 +1,4 @@
-use borrow.Author.Tests.{not-true, not-false, le-leb, le-ltb, lt-leb, lt-ltb}
+use borrow.Author.Tests.{not-true, not-false, le-leb, lt-leb}
 use Rattle.dist_terminal.specs.Length.{placeMet}
 use borrow.Author.Needs.{needs}
 use native.Mathlib.Omega.{arith}
@@ -17,8 +17,6 @@ returns c =
     simp (
       le-leb _ _ under,
       lt-leb _ _ past,
-      le-leb _ _ (c .if1 .taken),
-      le-ltb _ _ (c .if1 .taken),
     )
 
 returns-2 : tie.Need-returns-2
@@ -29,8 +27,6 @@ returns-2 c =
     simp (
       not-true (c .before .is-marked .result) (c .if2 .taken),
       ← rw small at (c .before .is-marked .ensures),
-      lt-ltb _ _ (c .before .before .if1 .left),
-      lt-leb _ _ (c .before .before .if1 .left),
     )
 
 returns-3 : tie.Need-returns-3
@@ -42,8 +38,6 @@ returns-3 c =
       ← c .message-words .ensures,
       not-false (c .before .before .before .is-marked .result) (c .before .before .if2 .left),
       ← rw small at (c .before .before .before .is-marked .ensures),
-      lt-ltb _ _ (c .before .before .before .before .if1 .left),
-      lt-leb _ _ (c .before .before .before .before .if1 .left),
     )
 
 pub place-met-spec : {M : Type 1} → statement M

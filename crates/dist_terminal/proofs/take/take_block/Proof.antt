@@ -1,4 +1,4 @@
-use borrow.Author.Tests.{le-leb, le-ltb, lt-leb, lt-ltb}
+use borrow.Author.Tests.{le-ltb, lt-ltb}
 use Rattle.dist_terminal.specs.Take.{bufferAfter}
 use Rattle.dist_terminal.specs.Take.{takeOf}
 use mathlib.Core.Path.{refl}
@@ -17,7 +17,6 @@ returns-2 : tie.Need-returns-2
 unfolding bufferAfter takeOf
 returns-2 c = simp (
   lt-ltb _ _ (c .if2 .taken),
-  lt-leb _ _ (c .if2 .taken),
   c .before .before .held .given .1,
   c .before .before .before .before .if1 .left,
   ← c .before .before .before .before .before .hand-short .ensures,
@@ -36,7 +35,6 @@ unfolding bufferAfter takeOf
 returns-4 c = simp (
   c .delivered .ensures,
   c .before .before .before .copy-bytes .ensures,
-  le-leb _ _ (c .before .before .before .before .before .if2 .left),
   le-ltb _ _ (c .before .before .before .before .before .if2 .left),
   c .before .before .before .before .before .before .before .held .given .1,
   c .before .before .before .before .before .before .before .before .before .if1 .left,

@@ -1,4 +1,4 @@
-use borrow.Author.Tests.{eq-eqb, le-leb, le-ltb, lt-leb, lt-ltb, ne-eqb}
+use borrow.Author.Tests.{eq-eqb, le-ltb, lt-ltb, ne-eqb}
 use Rattle.dist_terminal.specs.Take.{shownAfter}
 use Rattle.dist_terminal.specs.Take.{transmitOf}
 use mathlib.Core.Path.{refl}
@@ -17,7 +17,6 @@ returns-2 : tie.Need-returns-2
 unfolding shownAfter transmitOf
 returns-2 c = simp (
   lt-ltb _ _ (c .if2 .taken),
-  lt-leb _ _ (c .if2 .taken),
   c .before .if1 .left,
   ← c .before .before .is-configured .ensures,
 ) (refl, refl)
@@ -26,7 +25,6 @@ returns-3 : tie.Need-returns-3
 unfolding shownAfter transmitOf
 returns-3 c = simp (
   ne-eqb _ _ (c .if3 .taken),
-  le-leb _ _ (c .before .if2 .left),
   le-ltb _ _ (c .before .if2 .left),
   c .before .before .if1 .left,
   ← c .before .before .before .is-configured .ensures,
@@ -36,7 +34,6 @@ returns-4 : tie.Need-returns-4
 unfolding shownAfter transmitOf
 returns-4 c = simp (
   eq-eqb _ _ (c .if3 .left),
-  le-leb _ _ (c .before .if2 .left),
   le-ltb _ _ (c .before .if2 .left),
   c .before .before .if1 .left,
   ← c .before .before .before .is-configured .ensures,
