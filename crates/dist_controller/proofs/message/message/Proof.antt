@@ -1,6 +1,5 @@
 use borrow.Author.Tests.{le-ltb, lt-ltb}
-use Rattle.dist_controller.specs.Message.{bufferAfter}
-use Rattle.dist_controller.specs.Message.{messageOf}
+use Rattle.dist_controller.specs.Message.{bufferAfter, messageOf}
 use mathlib.Core.Path.{refl}
 use borrow.Author.Needs.{needs}
 use Rattle.dist_controller.proofs.message.message.Statement.{statement}

@@ -1,6 +1,5 @@
 use Rattle.dist_terminal.proofs.Ready.{fits}
-use Rattle.dist_terminal.specs.Calls.{configuringOf}
-use Rattle.dist_terminal.specs.Calls.{storeConfigured}
+use Rattle.dist_terminal.specs.Calls.{configuringOf, storeConfigured}
 use mathlib.Core.Path.{refl, sym, _∙_}
 use borrow.Author.Needs.{needs}
 use Rattle.dist_terminal.proofs.calls.configure.Statement.{statement}

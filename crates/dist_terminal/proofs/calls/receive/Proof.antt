@@ -1,7 +1,5 @@
 use borrow.Author.Tests.{eq-eqb, ne-eqb}
-use Rattle.dist_terminal.specs.Calls.{handReceived}
-use Rattle.dist_terminal.specs.Calls.{receiveOf}
-use Rattle.dist_terminal.specs.Calls.{storeReceived}
+use Rattle.dist_terminal.specs.Calls.{handReceived, receiveOf, storeReceived}
 use mathlib.Core.Path.{refl}
 use borrow.Author.Needs.{needs}
 use Rattle.dist_terminal.proofs.calls.receive.Statement.{statement}

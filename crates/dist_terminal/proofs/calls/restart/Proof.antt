@@ -1,6 +1,5 @@
 use Rattle.dist_terminal.proofs.Arriving.{long}
-use Rattle.dist_terminal.specs.Calls.{restartOf}
-use Rattle.dist_terminal.specs.Calls.{storeRestarted}
+use Rattle.dist_terminal.specs.Calls.{restartOf, storeRestarted}
 use mathlib.Core.Path.{refl, sym, _∙_}
 use borrow.Author.Needs.{needs}
 use Rattle.dist_terminal.proofs.calls.restart.Statement.{statement}

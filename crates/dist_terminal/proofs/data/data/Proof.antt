@@ -1,8 +1,6 @@
 use borrow.Author.Tests.{eq-eqb, ne-eqb}
-use Rattle.dist_terminal.specs.Data.{notedOf, placedOf}
+use Rattle.dist_terminal.specs.Data.{notedOf, placedOf, dataOf, storeAfter}
 use Rattle.dist_terminal.proofs.Arriving.{arriving, place, room-of-one}
-use Rattle.dist_terminal.specs.Data.{dataOf}
-use Rattle.dist_terminal.specs.Data.{storeAfter}
 use mathlib.Core.Path.{refl, sym, _∙_}
 use borrow.Author.Needs.{needs}
 use Rattle.dist_terminal.proofs.data.data.Statement.{statement}

@@ -1,6 +1,5 @@
 use native.Mathlib.Omega.{arith}
-use Rattle.dist_terminal.specs.Descriptor.{descriptorOf}
-use Rattle.dist_terminal.specs.Descriptor.{handAfter}
+use Rattle.dist_terminal.specs.Descriptor.{descriptorOf, handAfter}
 use mathlib.Core.Path.{refl, sym, _∙_}
 use Rattle.words.proofs.Fits.{taken, taken-fits}
 use Rattle.dist_terminal.proofs.Ready.{ready}

@@ -1,6 +1,5 @@
 use borrow.Author.Tests.{le-ltb, lt-ltb}
-use Rattle.dist_terminal.specs.Take.{bufferAfter}
-use Rattle.dist_terminal.specs.Take.{takeOf}
+use Rattle.dist_terminal.specs.Take.{bufferAfter, takeOf}
 use mathlib.Core.Path.{refl}
 use borrow.Author.Needs.{needs}
 use Rattle.dist_terminal.proofs.take.take_block.Statement.{statement}

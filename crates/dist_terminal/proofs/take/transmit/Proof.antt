@@ -1,6 +1,5 @@
 use borrow.Author.Tests.{eq-eqb, le-ltb, lt-ltb, ne-eqb}
-use Rattle.dist_terminal.specs.Take.{shownAfter}
-use Rattle.dist_terminal.specs.Take.{transmitOf}
+use Rattle.dist_terminal.specs.Take.{shownAfter, transmitOf}
 use mathlib.Core.Path.{refl}
 use borrow.Author.Needs.{needs}
 use Rattle.dist_terminal.proofs.take.transmit.Statement.{statement}
