@@ -8,12 +8,9 @@ returns : tie.Need-returns
 unfolding lastOf
 returns c = simp (eq-eqb _ _ (c .if1 .taken))
 
-sub-result : tie.Need-sub-result
-sub-result c = search needs
-
 returns-2 : tie.Need-returns-2
 unfolding lastOf
 returns-2 c = simp (ne-eqb _ _ (c .if1 .left))
 
 pub last-spec : {M : Type 1} → statement M
-last-spec = tie.close (tie.spec returns sub-result returns-2)
+last-spec = tie.close (tie.spec returns (λ c. search needs) returns-2)

@@ -1,17 +1,8 @@
-use borrow.Author.Tests.{eq-eqb, le-leb, le-ltb, lt-leb, lt-ltb, ne-eqb}
+use borrow.Author.Tests.{eq-eqb, le-ltb, lt-ltb, ne-eqb}
 use Rattle.dist_controller.specs.Asked.{transferMessage}
 use borrow.Author.Needs.{needs}
 use Rattle.dist_controller.proofs.asked.transfer_message.Statement.{statement}
 use Rattle.dist_controller.proofs.asked.transfer_message.Tie as tie
-
-messages-requires : tie.Need-messages-requires
-messages-requires c κs = search needs
-
-message-subaddress-requires : tie.Need-message-subaddress-requires
-message-subaddress-requires c κs = search needs
-
-message-words-requires : tie.Need-message-words-requires
-message-words-requires c κs = search needs
 
 returns : tie.Need-returns
 unfolding transferMessage
@@ -19,7 +10,6 @@ returns c = simp (
   ← c .message-words .ensures,
   ← c .before .message-subaddress .ensures,
   lt-ltb _ _ (c .before .before .if1 .taken),
-  lt-leb _ _ (c .before .before .if1 .taken),
   ← c .before .before .before .messages .ensures,
 )
 
@@ -27,7 +17,6 @@ returns-2 : tie.Need-returns-2
 unfolding transferMessage
 returns-2 c = simp (
   eq-eqb _ _ (c .if2 .taken),
-  le-leb _ _ (c .before .if1 .left),
   le-ltb _ _ (c .before .if1 .left),
   ← c .before .before .messages .ensures,
 )
@@ -36,7 +25,6 @@ returns-3 : tie.Need-returns-3
 unfolding transferMessage
 returns-3 c = simp (
   ne-eqb _ _ (c .if2 .left),
-  le-leb _ _ (c .before .if1 .left),
   le-ltb _ _ (c .before .if1 .left),
   ← c .before .before .messages .ensures,
 )
@@ -45,9 +33,9 @@ pub transfer-message-spec : {M : Type 1} → statement M
 transfer-message-spec =
     tie.close
     (tie.spec
-    messages-requires
-    message-subaddress-requires
-    message-words-requires
+    (λ c κs. search needs)
+    (λ c κs. search needs)
+    (λ c κs. search needs)
     returns
     returns-2
     returns-3)

@@ -3,51 +3,12 @@ use borrow.Author.Needs.{needs}
 use Rattle.dist_controller.proofs.events.ask_again.Statement.{statement}
 use Rattle.dist_controller.proofs.events.ask_again.Tie as tie
 
-due-requires : tie.Need-due-requires
-due-requires c κs = search needs
-
 returns : tie.Need-returns
 unfolding askAgain
 returns c = simp (
   c .if1 .taken,
   ← c .before .due .ensures,
 )
-
-enum-told : tie.Need-enum-told
-enum-told c = search needs
-
-one-more-requires : tie.Need-one-more-requires
-one-more-requires c κs = search needs
-
-enum-told-2 : tie.Need-enum-told-2
-enum-told-2 c = search needs
-
-in-phase-requires : tie.Need-in-phase-requires
-in-phase-requires c κs = search needs
-
-enum-told-3 : tie.Need-enum-told-3
-enum-told-3 c = search needs
-
-enum-told-4 : tie.Need-enum-told-4
-enum-told-4 c = search needs
-
-enum-told-5 : tie.Need-enum-told-5
-enum-told-5 c = search needs
-
-enum-told-6 : tie.Need-enum-told-6
-enum-told-6 c = search needs
-
-enum-told-7 : tie.Need-enum-told-7
-enum-told-7 c = search needs
-
-enum-told-8 : tie.Need-enum-told-8
-enum-told-8 c = search needs
-
-enum-told-9 : tie.Need-enum-told-9
-enum-told-9 c = search needs
-
-enum-told-10 : tie.Need-enum-told-10
-enum-told-10 c = search needs
 
 returns-2 : tie.Need-returns-2
 unfolding askAgain
@@ -135,20 +96,20 @@ pub ask-again-spec : {M : Type 1} → statement M
 ask-again-spec =
     tie.close
     (tie.spec
-    due-requires
+    (λ c κs. search needs)
     returns
-    enum-told
-    one-more-requires
-    enum-told-2
-    in-phase-requires
-    enum-told-3
-    enum-told-4
-    enum-told-5
-    enum-told-6
-    enum-told-7
-    enum-told-8
-    enum-told-9
-    enum-told-10
+    (λ c. search needs)
+    (λ c κs. search needs)
+    (λ c. search needs)
+    (λ c κs. search needs)
+    (λ c. search needs)
+    (λ c. search needs)
+    (λ c. search needs)
+    (λ c. search needs)
+    (λ c. search needs)
+    (λ c. search needs)
+    (λ c. search needs)
+    (λ c. search needs)
     returns-2
     returns-3
     returns-4

@@ -3,12 +3,6 @@ use borrow.Author.Needs.{needs}
 use Rattle.dist_controller.proofs.events.cut_transfer.Statement.{statement}
 use Rattle.dist_controller.proofs.events.cut_transfer.Tie as tie
 
-is-open-requires : tie.Need-is-open-requires
-is-open-requires c κs = search needs
-
-ended-requires : tie.Need-ended-requires
-ended-requires c κs = search needs
-
 returns : tie.Need-returns
 unfolding cutTransfer
 returns c = simp (
@@ -16,9 +10,6 @@ returns c = simp (
   c .before .if1 .taken,
   ← c .before .before .is-open .ensures,
 )
-
-in-phase-requires : tie.Need-in-phase-requires
-in-phase-requires c κs = search needs
 
 returns-2 : tie.Need-returns-2
 unfolding cutTransfer
@@ -30,4 +21,4 @@ returns-2 c = simp (
 
 pub cut-transfer-spec : {M : Type 1} → statement M
 cut-transfer-spec =
-    tie.close (tie.spec is-open-requires ended-requires returns in-phase-requires returns-2)
+    tie.close (tie.spec (λ c κs. search needs) (λ c κs. search needs) returns (λ c κs. search needs) returns-2)

@@ -3,12 +3,6 @@ use borrow.Author.Needs.{needs}
 use Rattle.dist_controller.proofs.events.reset.Statement.{statement}
 use Rattle.dist_controller.proofs.events.reset.Tie as tie
 
-is-configured-requires : tie.Need-is-configured-requires
-is-configured-requires c κs = search needs
-
-refuse-requires : tie.Need-refuse-requires
-refuse-requires c κs = search needs
-
 returns : tie.Need-returns
 unfolding resetOf
 returns c = simp (
@@ -16,18 +10,6 @@ returns c = simp (
   c .before .if1 .taken,
   ← c .before .before .is-configured .ensures,
 )
-
-cut-requires : tie.Need-cut-requires
-cut-requires c κs = search needs
-
-cut-transfer-requires : tie.Need-cut-transfer-requires
-cut-transfer-requires c κs = search needs
-
-voided-requires : tie.Need-voided-requires
-voided-requires c κs = search needs
-
-accept-requires : tie.Need-accept-requires
-accept-requires c κs = search needs
 
 returns-2 : tie.Need-returns-2
 unfolding resetOf
@@ -44,11 +26,11 @@ pub reset-spec : {M : Type 1} → statement M
 reset-spec =
     tie.close
     (tie.spec
-    is-configured-requires
-    refuse-requires
+    (λ c κs. search needs)
+    (λ c κs. search needs)
     returns
-    cut-requires
-    cut-transfer-requires
-    voided-requires
-    accept-requires
+    (λ c κs. search needs)
+    (λ c κs. search needs)
+    (λ c κs. search needs)
+    (λ c κs. search needs)
     returns-2)

@@ -3,12 +3,6 @@ use borrow.Author.Needs.{needs}
 use Rattle.dist_controller.proofs.events.restart.Statement.{statement}
 use Rattle.dist_controller.proofs.events.restart.Tie as tie
 
-is-configured-requires : tie.Need-is-configured-requires
-is-configured-requires c κs = search needs
-
-refuse-requires : tie.Need-refuse-requires
-refuse-requires c κs = search needs
-
 returns : tie.Need-returns
 unfolding restartOf
 returns c = simp (
@@ -16,12 +10,6 @@ returns c = simp (
   c .before .if1 .taken,
   ← c .before .before .is-configured .ensures,
 )
-
-fresh-requires : tie.Need-fresh-requires
-fresh-requires c κs = search needs
-
-accept-requires : tie.Need-accept-requires
-accept-requires c κs = search needs
 
 returns-2 : tie.Need-returns-2
 unfolding restartOf
@@ -36,9 +24,9 @@ pub restart-spec : {M : Type 1} → statement M
 restart-spec =
     tie.close
     (tie.spec
-    is-configured-requires
-    refuse-requires
+    (λ c κs. search needs)
+    (λ c κs. search needs)
     returns
-    fresh-requires
-    accept-requires
+    (λ c κs. search needs)
+    (λ c κs. search needs)
     returns-2)

@@ -2,12 +2,6 @@ use borrow.Author.Needs.{needs}
 use Rattle.dist_controller.proofs.events.ticked.Statement.{statement}
 use Rattle.dist_controller.proofs.events.ticked.Tie as tie
 
-next-tick-requires : tie.Need-next-tick-requires
-next-tick-requires c κs = search needs
-
-with-clock-requires : tie.Need-with-clock-requires
-with-clock-requires c κs = search needs
-
 returns : tie.Need-returns
 returns c = simp (
   c .with-clock .ensures,
@@ -15,4 +9,4 @@ returns c = simp (
 )
 
 pub ticked-spec : {M : Type 1} → statement M
-ticked-spec = tie.close (tie.spec next-tick-requires with-clock-requires returns)
+ticked-spec = tie.close (tie.spec (λ c κs. search needs) (λ c κs. search needs) returns)

@@ -1,43 +1,18 @@
-use borrow.Author.Tests.{le-leb, le-ltb, lt-leb, lt-ltb}
+use borrow.Author.Tests.{le-ltb, lt-ltb}
 use Rattle.dist_controller.specs.Report.{configuringOf}
 use borrow.Author.Needs.{needs}
 use Rattle.dist_controller.proofs.report.configure.Statement.{statement}
 use Rattle.dist_controller.proofs.report.configure.Tie as tie
-
-configure-requires : tie.Need-configure-requires
-configure-requires c κs = search needs
-
-enum-known-configuring : tie.Need-enum-known-configuring
-enum-known-configuring c = search needs
-
-refuse-requires : tie.Need-refuse-requires
-refuse-requires c κs = search needs
-
-enum-known-configuring-2 : tie.Need-enum-known-configuring-2
-enum-known-configuring-2 c = search needs
-
-block-store-requires : tie.Need-block-store-requires
-block-store-requires c κs = search needs
-
-refuse-requires-2 : tie.Need-refuse-requires-2
-refuse-requires-2 c κs = search needs
 
 returns : tie.Need-returns
 unfolding configuringOf
 returns c = simp (
   c .refuse2 .ensures,
   lt-ltb _ _ (c .before .if1 .taken),
-  lt-leb _ _ (c .before .if1 .taken),
   ← c .before .before .block-store .ensures,
   c .before .before .before .before .configuring2 .given .1,
   ← c .before .before .before .before .before .before .configure .ensures,
 )
-
-fresh-requires : tie.Need-fresh-requires
-fresh-requires c κs = search needs
-
-accept-requires : tie.Need-accept-requires
-accept-requires c κs = search needs
 
 returns-2 : tie.Need-returns-2
 unfolding configuringOf
@@ -52,7 +27,6 @@ unfolding configuringOf
 returns-3 c = simp (
   c .accept .ensures,
   c .before .fresh .ensures,
-  le-leb _ _ (c .before .before .if1 .left),
   le-ltb _ _ (c .before .before .if1 .left),
   ← c .before .before .before .block-store .ensures,
   c .before .before .before .before .before .configuring2 .given .1,
@@ -63,14 +37,14 @@ pub configure-spec : {M : Type 1} → statement M
 configure-spec =
     tie.close
     (tie.spec
-    configure-requires
-    enum-known-configuring
-    refuse-requires
-    enum-known-configuring-2
-    block-store-requires
-    refuse-requires-2
+    (λ c κs. search needs)
+    (λ c. search needs)
+    (λ c κs. search needs)
+    (λ c. search needs)
+    (λ c κs. search needs)
+    (λ c κs. search needs)
     returns
-    fresh-requires
-    accept-requires
+    (λ c κs. search needs)
+    (λ c κs. search needs)
     returns-2
     returns-3)

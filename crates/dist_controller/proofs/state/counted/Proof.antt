@@ -8,12 +8,9 @@ returns : tie.Need-returns
 unfolding countedOf
 returns c = simp (eq-eqb _ _ (c .if1 .taken))
 
-add-result : tie.Need-add-result
-add-result c = search needs
-
 returns-2 : tie.Need-returns-2
 unfolding countedOf
 returns-2 c = simp (ne-eqb _ _ (c .if1 .left))
 
 pub counted-spec : {M : Type 1} → statement M
-counted-spec = tie.close (tie.spec returns add-result returns-2)
+counted-spec = tie.close (tie.spec returns (λ c. search needs) returns-2)

@@ -2,11 +2,8 @@ use borrow.Author.Needs.{needs}
 use Rattle.dist_controller.proofs.state.fresh.Statement.{statement}
 use Rattle.dist_controller.proofs.state.fresh.Tie as tie
 
-fresh-transfer-requires : tie.Need-fresh-transfer-requires
-fresh-transfer-requires c κs = search needs
-
 returns : tie.Need-returns
 returns c = simp (c .fresh-transfer .ensures)
 
 pub fresh-spec : {M : Type 1} → statement M
-fresh-spec = tie.close (tie.spec fresh-transfer-requires returns)
+fresh-spec = tie.close (tie.spec (λ c κs. search needs) returns)

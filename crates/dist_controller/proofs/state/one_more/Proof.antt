@@ -2,12 +2,6 @@ use borrow.Author.Needs.{needs}
 use Rattle.dist_controller.proofs.state.one_more.Statement.{statement}
 use Rattle.dist_controller.proofs.state.one_more.Tie as tie
 
-counted-requires : tie.Need-counted-requires
-counted-requires c κs = search needs
-
-with-transfer-requires : tie.Need-with-transfer-requires
-with-transfer-requires c κs = search needs
-
 returns : tie.Need-returns
 returns c = simp (
   c .with-transfer .ensures,
@@ -15,4 +9,4 @@ returns c = simp (
 )
 
 pub one-more-spec : {M : Type 1} → statement M
-one-more-spec = tie.close (tie.spec counted-requires with-transfer-requires returns)
+one-more-spec = tie.close (tie.spec (λ c κs. search needs) (λ c κs. search needs) returns)

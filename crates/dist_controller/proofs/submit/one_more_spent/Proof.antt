@@ -1,4 +1,4 @@
-use borrow.Author.Tests.{le-leb, le-ltb, lt-leb, lt-ltb}
+use borrow.Author.Tests.{le-leb, lt-leb}
 use Rattle.dist_controller.specs.Submit.{oneMoreSpent}
 use borrow.Author.Needs.{needs}
 use Rattle.dist_controller.proofs.submit.one_more_spent.Statement.{statement}
@@ -6,20 +6,11 @@ use Rattle.dist_controller.proofs.submit.one_more_spent.Tie as tie
 
 returns : tie.Need-returns
 unfolding oneMoreSpent
-returns c = simp (
-  le-leb _ _ (c .if1 .taken),
-  le-ltb _ _ (c .if1 .taken),
-)
-
-add-result : tie.Need-add-result
-add-result c = search needs
+returns c = simp (le-leb _ _ (c .if1 .taken))
 
 returns-2 : tie.Need-returns-2
 unfolding oneMoreSpent
-returns-2 c = simp (
-  lt-ltb _ _ (c .if1 .left),
-  lt-leb _ _ (c .if1 .left),
-)
+returns-2 c = simp (lt-leb _ _ (c .if1 .left))
 
 pub one-more-spent-spec : {M : Type 1} → statement M
-one-more-spent-spec = tie.close (tie.spec returns add-result returns-2)
+one-more-spent-spec = tie.close (tie.spec returns (λ c. search needs) returns-2)

@@ -3,18 +3,12 @@ use borrow.Author.Needs.{needs}
 use Rattle.dist_controller.proofs.submit.short.Statement.{statement}
 use Rattle.dist_controller.proofs.submit.short.Tie as tie
 
-is-configured-requires : tie.Need-is-configured-requires
-is-configured-requires c κs = search needs
-
 returns : tie.Need-returns
 unfolding shortOf
 returns c = simp (
   c .if1 .taken,
   ← c .before .is-configured .ensures,
 )
-
-block-store-requires : tie.Need-block-store-requires
-block-store-requires c κs = search needs
 
 returns-2 : tie.Need-returns-2
 unfolding shortOf
@@ -25,4 +19,4 @@ returns-2 c = simp (
 )
 
 pub short-spec : {M : Type 1} → statement M
-short-spec = tie.close (tie.spec is-configured-requires returns block-store-requires returns-2)
+short-spec = tie.close (tie.spec (λ c κs. search needs) returns (λ c κs. search needs) returns-2)

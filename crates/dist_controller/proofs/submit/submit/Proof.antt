@@ -9,30 +9,6 @@ use Rattle.dist_controller.proofs.Admitted.{admitted}
 use Rattle.dist_controller.proofs.submit.submit.Statement.{statement}
 use Rattle.dist_controller.proofs.submit.submit.Tie as tie
 
-submit-answer-requires : tie.Need-submit-answer-requires
-submit-answer-requires c κs = search needs
-
-enum-known-answer : tie.Need-enum-known-answer
-enum-known-answer c = search needs
-
-refuse-requires : tie.Need-refuse-requires
-refuse-requires c κs = search needs
-
-enum-told : tie.Need-enum-told
-enum-told c = search needs
-
-store-block-requires : tie.Need-store-block-requires
-store-block-requires c κs = search needs
-
-cast-started : tie.Need-cast-started
-cast-started c = search needs
-
-started-requires : tie.Need-started-requires
-started-requires c κs = search needs
-
-accept-requires : tie.Need-accept-requires
-accept-requires c κs = search needs
-
 returns : tie.Need-returns
 unfolding submitOf storeAfter
 returns c = simp (
@@ -41,9 +17,6 @@ returns c = simp (
   c .before .before .answer .given .1,
 )
     (refl, refl)
-
-same-length : tie.Need-same-length
-same-length c = search needs
 
 returns-2 : tie.Need-returns-2
 unfolding submitOf storeAfter
@@ -69,14 +42,14 @@ pub submit-spec : {M : Type 1} → statement M
 submit-spec =
     tie.close
     (tie.spec
-    submit-answer-requires
-    enum-known-answer
-    refuse-requires
-    enum-told
-    store-block-requires
-    cast-started
-    started-requires
-    accept-requires
+    (λ c κs. search needs)
+    (λ c. search needs)
+    (λ c κs. search needs)
+    (λ c. search needs)
+    (λ c κs. search needs)
+    (λ c. search needs)
+    (λ c κs. search needs)
+    (λ c κs. search needs)
     returns
-    same-length
+    (λ c. search needs)
     returns-2)

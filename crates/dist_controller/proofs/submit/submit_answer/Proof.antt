@@ -3,9 +3,6 @@ use borrow.Author.Needs.{needs}
 use Rattle.dist_controller.proofs.submit.submit_answer.Statement.{statement}
 use Rattle.dist_controller.proofs.submit.submit_answer.Tie as tie
 
-short-requires : tie.Need-short-requires
-short-requires c κs = search needs
-
 returns : tie.Need-returns
 unfolding submitAnswerOf
 returns c = simp (
@@ -20,18 +17,6 @@ returns-2 c = simp (
   c .before .before .if1 .left,
   ← c .before .before .before .short .ensures,
 )
-
-size-answer-requires : tie.Need-size-answer-requires
-size-answer-requires c κs = search needs
-
-enum-known-answer : tie.Need-enum-known-answer
-enum-known-answer c = search needs
-
-enum-told : tie.Need-enum-told
-enum-told c = search needs
-
-room-answer-requires : tie.Need-room-answer-requires
-room-answer-requires c κs = search needs
 
 returns-3 : tie.Need-returns-3
 unfolding submitAnswerOf
@@ -58,12 +43,12 @@ pub submit-answer-spec : {M : Type 1} → statement M
 submit-answer-spec =
     tie.close
     (tie.spec
-    short-requires
+    (λ c κs. search needs)
     returns
     returns-2
-    size-answer-requires
-    enum-known-answer
-    enum-told
-    room-answer-requires
+    (λ c κs. search needs)
+    (λ c. search needs)
+    (λ c. search needs)
+    (λ c κs. search needs)
     returns-3
     returns-4)

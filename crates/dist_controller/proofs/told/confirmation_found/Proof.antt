@@ -3,24 +3,12 @@ use borrow.Author.Needs.{needs}
 use Rattle.dist_controller.proofs.told.confirmation_found.Statement.{statement}
 use Rattle.dist_controller.proofs.told.confirmation_found.Tie as tie
 
-enum-told : tie.Need-enum-told
-enum-told c = search needs
-
-enum-told-2 : tie.Need-enum-told-2
-enum-told-2 c = search needs
-
-enum-known-confirmation : tie.Need-enum-known-confirmation
-enum-known-confirmation c = search needs
-
 returns : tie.Need-returns
 unfolding confirmationFound
 returns c = simp (
   c .if1 .taken,
   c .before .before .confirmation .given .1,
 )
-
-same-requires : tie.Need-same-requires
-same-requires c κs = search needs
 
 returns-2 : tie.Need-returns-2
 unfolding confirmationFound
@@ -63,11 +51,11 @@ pub confirmation-found-spec : {M : Type 1} → statement M
 confirmation-found-spec =
     tie.close
     (tie.spec
-    enum-told
-    enum-told-2
-    enum-known-confirmation
+    (λ c. search needs)
+    (λ c. search needs)
+    (λ c. search needs)
     returns
-    same-requires
+    (λ c κs. search needs)
     returns-2
     returns-3
     returns-4

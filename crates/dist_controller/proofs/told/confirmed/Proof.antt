@@ -2,12 +2,6 @@ use borrow.Author.Needs.{needs}
 use Rattle.dist_controller.proofs.told.confirmed.Statement.{statement}
 use Rattle.dist_controller.proofs.told.confirmed.Tie as tie
 
-with-standing-requires : tie.Need-with-standing-requires
-with-standing-requires c κs = search needs
-
-ended-requires : tie.Need-ended-requires
-ended-requires c κs = search needs
-
 returns : tie.Need-returns
 returns c = simp (
   c .ended .ensures,
@@ -15,4 +9,4 @@ returns c = simp (
 )
 
 pub confirmed-spec : {M : Type 1} → statement M
-confirmed-spec = tie.close (tie.spec with-standing-requires ended-requires returns)
+confirmed-spec = tie.close (tie.spec (λ c κs. search needs) (λ c κs. search needs) returns)

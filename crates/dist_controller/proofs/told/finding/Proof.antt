@@ -3,21 +3,12 @@ use borrow.Author.Needs.{needs}
 use Rattle.dist_controller.proofs.told.finding.Statement.{statement}
 use Rattle.dist_controller.proofs.told.finding.Tie as tie
 
-lost-requires : tie.Need-lost-requires
-lost-requires c κs = search needs
-
 returns : tie.Need-returns
 unfolding findingOf
 returns c = simp (
   c .if1 .taken,
   ← c .before .lost .ensures,
 )
-
-read-distribution-confirmation-requires : tie.Need-read-distribution-confirmation-requires
-read-distribution-confirmation-requires c κs = search needs
-
-confirmation-found-requires : tie.Need-confirmation-found-requires
-confirmation-found-requires c κs = search needs
 
 returns-2 : tie.Need-returns-2
 unfolding findingOf
@@ -32,8 +23,8 @@ pub finding-spec : {M : Type 1} → statement M
 finding-spec =
     tie.close
     (tie.spec
-    lost-requires
+    (λ c κs. search needs)
     returns
-    read-distribution-confirmation-requires
-    confirmation-found-requires
+    (λ c κs. search needs)
+    (λ c κs. search needs)
     returns-2)

@@ -3,9 +3,6 @@ use borrow.Author.Needs.{needs}
 use Rattle.dist_controller.proofs.told.lost.Statement.{statement}
 use Rattle.dist_controller.proofs.told.lost.Tie as tie
 
-is-done-requires : tie.Need-is-done-requires
-is-done-requires c κs = search needs
-
 returns : tie.Need-returns
 unfolding lostOf
 returns c = simp (
@@ -21,4 +18,4 @@ returns-2 c = simp (
 )
 
 pub lost-spec : {M : Type 1} → statement M
-lost-spec = tie.close (tie.spec is-done-requires returns returns-2)
+lost-spec = tie.close (tie.spec (λ c κs. search needs) returns returns-2)

@@ -3,12 +3,6 @@ use borrow.Author.Needs.{needs}
 use Rattle.dist_controller.proofs.told.not_shown.Statement.{statement}
 use Rattle.dist_controller.proofs.told.not_shown.Tie as tie
 
-overdue-requires : tie.Need-overdue-requires
-overdue-requires c κs = search needs
-
-in-phase-requires : tie.Need-in-phase-requires
-in-phase-requires c κs = search needs
-
 returns : tie.Need-returns
 unfolding notShown
 returns c = simp (
@@ -16,9 +10,6 @@ returns c = simp (
   c .before .if1 .taken,
   ← c .before .before .overdue .ensures,
 )
-
-in-phase-requires-2 : tie.Need-in-phase-requires-2
-in-phase-requires-2 c κs = search needs
 
 returns-2 : tie.Need-returns-2
 unfolding notShown
@@ -30,4 +21,4 @@ returns-2 c = simp (
 
 pub not-shown-spec : {M : Type 1} → statement M
 not-shown-spec =
-    tie.close (tie.spec overdue-requires in-phase-requires returns in-phase-requires-2 returns-2)
+    tie.close (tie.spec (λ c κs. search needs) (λ c κs. search needs) returns (λ c κs. search needs) returns-2)

@@ -3,42 +3,6 @@ use borrow.Author.Needs.{needs}
 use Rattle.dist_controller.proofs.told.read.Statement.{statement}
 use Rattle.dist_controller.proofs.told.read.Tie as tie
 
-enum-told : tie.Need-enum-told
-enum-told c = search needs
-
-confirmed-requires : tie.Need-confirmed-requires
-confirmed-requires c κs = search needs
-
-enum-told-2 : tie.Need-enum-told-2
-enum-told-2 c = search needs
-
-ended-requires : tie.Need-ended-requires
-ended-requires c κs = search needs
-
-enum-told-3 : tie.Need-enum-told-3
-enum-told-3 c = search needs
-
-unanswered-requires : tie.Need-unanswered-requires
-unanswered-requires c κs = search needs
-
-enum-told-4 : tie.Need-enum-told-4
-enum-told-4 c = search needs
-
-unanswered-requires-2 : tie.Need-unanswered-requires-2
-unanswered-requires-2 c κs = search needs
-
-enum-told-5 : tie.Need-enum-told-5
-enum-told-5 c = search needs
-
-unanswered-requires-3 : tie.Need-unanswered-requires-3
-unanswered-requires-3 c κs = search needs
-
-enum-told-6 : tie.Need-enum-told-6
-enum-told-6 c = search needs
-
-unanswered-requires-4 : tie.Need-unanswered-requires-4
-unanswered-requires-4 c κs = search needs
-
 returns : tie.Need-returns
 unfolding readOf
 returns c = simp (
@@ -85,18 +49,18 @@ pub read-spec : {M : Type 1} → statement M
 read-spec =
     tie.close
     (tie.spec
-    enum-told
-    confirmed-requires
-    enum-told-2
-    ended-requires
-    enum-told-3
-    unanswered-requires
-    enum-told-4
-    unanswered-requires-2
-    enum-told-5
-    unanswered-requires-3
-    enum-told-6
-    unanswered-requires-4
+    (λ c. search needs)
+    (λ c κs. search needs)
+    (λ c. search needs)
+    (λ c κs. search needs)
+    (λ c. search needs)
+    (λ c κs. search needs)
+    (λ c. search needs)
+    (λ c κs. search needs)
+    (λ c. search needs)
+    (λ c κs. search needs)
+    (λ c. search needs)
+    (λ c κs. search needs)
     returns
     returns-2
     returns-3

@@ -1,29 +1,16 @@
-use borrow.Author.Tests.{le-leb, le-ltb, lt-leb, lt-ltb}
+use borrow.Author.Tests.{le-ltb, lt-ltb}
 use Rattle.dist_controller.specs.Told.{sentOf}
 use borrow.Author.Needs.{needs}
 use Rattle.dist_controller.proofs.told.sent.Statement.{statement}
 use Rattle.dist_controller.proofs.told.sent.Tie as tie
-
-messages-requires : tie.Need-messages-requires
-messages-requires c κs = search needs
-
-told-now-requires : tie.Need-told-now-requires
-told-now-requires c κs = search needs
 
 returns : tie.Need-returns
 unfolding sentOf
 returns c = simp (
   c .told-now .ensures,
   lt-ltb _ _ (c .before .if1 .taken),
-  lt-leb _ _ (c .before .if1 .taken),
   ← c .before .before .before .messages .ensures,
 )
-
-stops-requires : tie.Need-stops-requires
-stops-requires c κs = search needs
-
-ended-requires : tie.Need-ended-requires
-ended-requires c κs = search needs
 
 returns-2 : tie.Need-returns-2
 unfolding sentOf
@@ -31,13 +18,9 @@ returns-2 c = simp (
   c .ended .ensures,
   c .before .if2 .taken,
   ← c .before .before .stops .ensures,
-  le-leb _ _ (c .before .before .before .before .if1 .left),
   le-ltb _ _ (c .before .before .before .before .if1 .left),
   ← c .before .before .before .before .before .before .messages .ensures,
 )
-
-one-more-requires : tie.Need-one-more-requires
-one-more-requires c κs = search needs
 
 returns-3 : tie.Need-returns-3
 unfolding sentOf
@@ -45,7 +28,6 @@ returns-3 c = simp (
   c .one-more .ensures,
   c .before .if2 .left,
   ← c .before .before .stops .ensures,
-  le-leb _ _ (c .before .before .before .before .if1 .left),
   le-ltb _ _ (c .before .before .before .before .if1 .left),
   ← c .before .before .before .before .before .before .messages .ensures,
 )
@@ -54,11 +36,11 @@ pub sent-spec : {M : Type 1} → statement M
 sent-spec =
     tie.close
     (tie.spec
-    messages-requires
-    told-now-requires
+    (λ c κs. search needs)
+    (λ c κs. search needs)
     returns
-    stops-requires
-    ended-requires
+    (λ c κs. search needs)
+    (λ c κs. search needs)
     returns-2
-    one-more-requires
+    (λ c κs. search needs)
     returns-3)

@@ -3,15 +3,6 @@ use borrow.Author.Needs.{needs}
 use Rattle.dist_controller.proofs.told.stops.Statement.{statement}
 use Rattle.dist_controller.proofs.told.stops.Tie as tie
 
-enum-told : tie.Need-enum-told
-enum-told c = search needs
-
-enum-told-2 : tie.Need-enum-told-2
-enum-told-2 c = search needs
-
-is-done-requires : tie.Need-is-done-requires
-is-done-requires c κs = search needs
-
 returns : tie.Need-returns
 unfolding stopsOf
 returns c = simp (c .enum-told .given .1)
@@ -24,4 +15,4 @@ returns-2 c = simp (
 )
 
 pub stops-spec : {M : Type 1} → statement M
-stops-spec = tie.close (tie.spec enum-told enum-told-2 is-done-requires returns returns-2)
+stops-spec = tie.close (tie.spec (λ c. search needs) (λ c. search needs) (λ c κs. search needs) returns returns-2)

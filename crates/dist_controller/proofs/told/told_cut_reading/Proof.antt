@@ -3,15 +3,6 @@ use borrow.Author.Needs.{needs}
 use Rattle.dist_controller.proofs.told.told_cut_reading.Statement.{statement}
 use Rattle.dist_controller.proofs.told.told_cut_reading.Tie as tie
 
-finding-requires : tie.Need-finding-requires
-finding-requires c κs = search needs
-
-with-finding-requires : tie.Need-with-finding-requires
-with-finding-requires c κs = search needs
-
-in-phase-requires : tie.Need-in-phase-requires
-in-phase-requires c κs = search needs
-
 returns : tie.Need-returns
 unfolding toldCutReading
 returns c = simp (
@@ -22,4 +13,4 @@ returns c = simp (
 
 pub told-cut-reading-spec : {M : Type 1} → statement M
 told-cut-reading-spec =
-    tie.close (tie.spec finding-requires with-finding-requires in-phase-requires returns)
+    tie.close (tie.spec (λ c κs. search needs) (λ c κs. search needs) (λ c κs. search needs) returns)

@@ -3,12 +3,6 @@ use borrow.Author.Needs.{needs}
 use Rattle.dist_controller.proofs.told.unanswered.Statement.{statement}
 use Rattle.dist_controller.proofs.told.unanswered.Tie as tie
 
-overdue-requires : tie.Need-overdue-requires
-overdue-requires c κs = search needs
-
-ended-requires : tie.Need-ended-requires
-ended-requires c κs = search needs
-
 returns : tie.Need-returns
 unfolding unansweredOf
 returns c = simp (
@@ -16,9 +10,6 @@ returns c = simp (
   c .before .if1 .taken,
   ← c .before .before .overdue .ensures,
 )
-
-in-phase-requires : tie.Need-in-phase-requires
-in-phase-requires c κs = search needs
 
 returns-2 : tie.Need-returns-2
 unfolding unansweredOf
@@ -30,4 +21,4 @@ returns-2 c = simp (
 
 pub unanswered-spec : {M : Type 1} → statement M
 unanswered-spec =
-    tie.close (tie.spec overdue-requires ended-requires returns in-phase-requires returns-2)
+    tie.close (tie.spec (λ c κs. search needs) (λ c κs. search needs) returns (λ c κs. search needs) returns-2)

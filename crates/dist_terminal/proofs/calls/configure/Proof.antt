@@ -1,28 +1,9 @@
 use Rattle.dist_terminal.proofs.Ready.{fits}
-use Rattle.dist_terminal.specs.Calls.{configuringOf}
-use Rattle.dist_terminal.specs.Calls.{storeConfigured}
+use Rattle.dist_terminal.specs.Calls.{configuringOf, storeConfigured}
 use mathlib.Core.Path.{refl, sym, _∙_}
 use borrow.Author.Needs.{needs}
 use Rattle.dist_terminal.proofs.calls.configure.Statement.{statement}
 use Rattle.dist_terminal.proofs.calls.configure.Tie as tie
-
-configure-requires : tie.Need-configure-requires
-configure-requires c κs = search needs
-
-enum-known-configuring : tie.Need-enum-known-configuring
-enum-known-configuring c = search needs
-
-refuse-requires : tie.Need-refuse-requires
-refuse-requires c κs = search needs
-
-enum-known-configuring-2 : tie.Need-enum-known-configuring-2
-enum-known-configuring-2 c = search needs
-
-unfit-requires : tie.Need-unfit-requires
-unfit-requires c κs = search needs
-
-refuse-requires-2 : tie.Need-refuse-requires-2
-refuse-requires-2 c κs = search needs
 
 returns : tie.Need-returns
 unfolding configuringOf storeConfigured
@@ -37,12 +18,6 @@ returns c = simp (
 empty-places-requires : tie.Need-empty-places-requires
 empty-places-requires c κs = fits _ _ _ (sym (c .before .before .unfit .ensures) ∙ c .before .if1 .left)
 
-fresh-requires : tie.Need-fresh-requires
-fresh-requires c κs = search needs
-
-accept-requires : tie.Need-accept-requires
-accept-requires c κs = search needs
-
 returns-2 : tie.Need-returns-2
 unfolding configuringOf storeConfigured
 returns-2 c = simp (
@@ -50,9 +25,6 @@ returns-2 c = simp (
   c .before .before .configuring .given .1,
   ← c .before .before .before .before .configure .ensures,
 ) (refl, refl)
-
-same-length : tie.Need-same-length
-same-length c = search needs
 
 returns-3 : tie.Need-returns-3
 unfolding configuringOf storeConfigured
@@ -70,16 +42,16 @@ pub configure-spec : {M : Type 1} → statement M
 configure-spec =
     tie.close
     (tie.spec
-    configure-requires
-    enum-known-configuring
-    refuse-requires
-    enum-known-configuring-2
-    unfit-requires
-    refuse-requires-2
+    (λ c κs. search needs)
+    (λ c. search needs)
+    (λ c κs. search needs)
+    (λ c. search needs)
+    (λ c κs. search needs)
+    (λ c κs. search needs)
     returns
     empty-places-requires
-    fresh-requires
-    accept-requires
+    (λ c κs. search needs)
+    (λ c κs. search needs)
     returns-2
-    same-length
+    (λ c. search needs)
     returns-3)

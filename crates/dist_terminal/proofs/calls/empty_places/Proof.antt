@@ -10,24 +10,6 @@ use Rattle.dist_terminal.proofs.Filling.{zeroed}
 use Rattle.dist_terminal.proofs.calls.empty_places.Statement.{statement}
 use Rattle.dist_terminal.proofs.calls.empty_places.Tie as tie
 
-message-store-requires : tie.Need-message-store-requires
-message-store-requires c κs = search needs
-
-sub-zero-bytes : tie.Need-sub-zero-bytes
-sub-zero-bytes c = search needs
-
-part-zero-bytes-start : tie.Need-part-zero-bytes-start
-part-zero-bytes-start c = search needs
-
-part-zero-bytes-end : tie.Need-part-zero-bytes-end
-part-zero-bytes-end c = search needs
-
-zero-bytes-requires : tie.Need-zero-bytes-requires
-zero-bytes-requires c κs = search needs
-
-same-length : tie.Need-same-length
-same-length c = search needs
-
 returns : tie.Need-returns
 unfolding emptied
 returns c =
@@ -41,10 +23,10 @@ pub empty-places-spec : {M : Type 1} → statement M
 empty-places-spec =
     tie.close
     (tie.spec
-    message-store-requires
-    sub-zero-bytes
-    part-zero-bytes-start
-    part-zero-bytes-end
-    zero-bytes-requires
-    same-length
+    (λ c κs. search needs)
+    (λ c. search needs)
+    (λ c. search needs)
+    (λ c. search needs)
+    (λ c κs. search needs)
+    (λ c. search needs)
     returns)

@@ -1,17 +1,9 @@
 use borrow.Author.Tests.{eq-eqb, ne-eqb}
-use Rattle.dist_terminal.specs.Calls.{handReceived}
-use Rattle.dist_terminal.specs.Calls.{receiveOf}
-use Rattle.dist_terminal.specs.Calls.{storeReceived}
+use Rattle.dist_terminal.specs.Calls.{handReceived, receiveOf, storeReceived}
 use mathlib.Core.Path.{refl}
 use borrow.Author.Needs.{needs}
 use Rattle.dist_terminal.proofs.calls.receive.Statement.{statement}
 use Rattle.dist_terminal.proofs.calls.receive.Tie as tie
-
-is-short-requires : tie.Need-is-short-requires
-is-short-requires c κs = search needs
-
-refuse-requires : tie.Need-refuse-requires
-refuse-requires c κs = search needs
 
 returns : tie.Need-returns
 unfolding handReceived receiveOf storeReceived
@@ -20,15 +12,6 @@ returns c = simp (
   c .before .if1 .taken,
   ← c .before .before .is-short .ensures,
 ) (refl, (refl, refl))
-
-descriptor-requires : tie.Need-descriptor-requires
-descriptor-requires c κs = search needs
-
-same-length : tie.Need-same-length
-same-length c = search needs
-
-same-length-2 : tie.Need-same-length-2
-same-length-2 c = search needs
 
 returns-2 : tie.Need-returns-2
 unfolding handReceived receiveOf storeReceived
@@ -39,12 +22,6 @@ returns-2 c =
       c .before .before .before .before .before .before .if1 .left,
       ← c .before .before .before .before .before .before .before .is-short .ensures,
     ) (d .0, (refl, d .1))
-
-data-requires : tie.Need-data-requires
-data-requires c κs = search needs
-
-same-length-3 : tie.Need-same-length-3
-same-length-3 c = search needs
 
 returns-3 : tie.Need-returns-3
 unfolding handReceived receiveOf storeReceived
@@ -60,13 +37,13 @@ pub receive-spec : {M : Type 1} → statement M
 receive-spec =
     tie.close
     (tie.spec
-    is-short-requires
-    refuse-requires
+    (λ c κs. search needs)
+    (λ c κs. search needs)
     returns
-    descriptor-requires
-    same-length
-    same-length-2
+    (λ c κs. search needs)
+    (λ c. search needs)
+    (λ c. search needs)
     returns-2
-    data-requires
-    same-length-3
+    (λ c κs. search needs)
+    (λ c. search needs)
     returns-3)

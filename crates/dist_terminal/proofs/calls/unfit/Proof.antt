@@ -1,31 +1,23 @@
-use borrow.Author.Tests.{le-leb, le-ltb, lt-leb, lt-ltb}
+use borrow.Author.Tests.{le-ltb, lt-ltb}
 use Rattle.dist_terminal.specs.Calls.{unfitOf}
 use borrow.Author.Needs.{needs}
 use Rattle.dist_terminal.proofs.calls.unfit.Statement.{statement}
 use Rattle.dist_terminal.proofs.calls.unfit.Tie as tie
 
-message-store-requires : tie.Need-message-store-requires
-message-store-requires c κs = search needs
-
 returns : tie.Need-returns
 unfolding unfitOf
 returns c = simp (
   lt-ltb _ _ (c .if1 .taken),
-  lt-leb _ _ (c .if1 .taken),
   ← c .before .message-store .ensures,
 )
-
-block-store-requires : tie.Need-block-store-requires
-block-store-requires c κs = search needs
 
 returns-2 : tie.Need-returns-2
 unfolding unfitOf
 returns-2 c = simp (
   ← c .block-store .ensures,
-  le-leb _ _ (c .before .if1 .left),
   le-ltb _ _ (c .before .if1 .left),
   ← c .before .before .message-store .ensures,
 )
 
 pub unfit-spec : {M : Type 1} → statement M
-unfit-spec = tie.close (tie.spec message-store-requires returns block-store-requires returns-2)
+unfit-spec = tie.close (tie.spec (λ c κs. search needs) returns (λ c κs. search needs) returns-2)

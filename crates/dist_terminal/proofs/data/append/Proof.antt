@@ -13,33 +13,6 @@ returns c =
     let z : 2048 - c .before .before .before .args .received ≡ 0 = omega (arith, c .if1 .taken) in
     rw z
 
-sub-least : tie.Need-sub-least
-sub-least c = search needs
-
-cast-least : tie.Need-cast-least
-cast-least c = search needs
-
-least-requires : tie.Need-least-requires
-least-requires c κs = search needs
-
-mul-write-message : tie.Need-mul-write-message
-mul-write-message c = search needs
-
-sub-write-message : tie.Need-sub-write-message
-sub-write-message c = search needs
-
-part-write-message-start : tie.Need-part-write-message-start
-part-write-message-start c = search needs
-
-part-write-message-end : tie.Need-part-write-message-end
-part-write-message-end c = search needs
-
-write-message-requires : tie.Need-write-message-requires
-write-message-requires c κs = search needs
-
-same-length : tie.Need-same-length
-same-length c = search needs
-
 returns-2 : tie.Need-returns-2
 returns-2 c =
     let k = c .before .before .before .before .before in
@@ -61,13 +34,13 @@ append-spec =
     tie.close
     (tie.spec
     returns
-    sub-least
-    cast-least
-    least-requires
-    mul-write-message
-    sub-write-message
-    part-write-message-start
-    part-write-message-end
-    write-message-requires
-    same-length
+    (λ c. search needs)
+    (λ c. search needs)
+    (λ c κs. search needs)
+    (λ c. search needs)
+    (λ c. search needs)
+    (λ c. search needs)
+    (λ c. search needs)
+    (λ c κs. search needs)
+    (λ c. search needs)
     returns-2)

@@ -1,24 +1,10 @@
 use borrow.Author.Tests.{eq-eqb, ne-eqb}
-use Rattle.dist_terminal.specs.Data.{notedOf, placedOf}
+use Rattle.dist_terminal.specs.Data.{notedOf, placedOf, dataOf, storeAfter}
 use Rattle.dist_terminal.proofs.Arriving.{arriving, place, room-of-one}
-use Rattle.dist_terminal.specs.Data.{dataOf}
-use Rattle.dist_terminal.specs.Data.{storeAfter}
 use mathlib.Core.Path.{refl, sym, _∙_}
 use borrow.Author.Needs.{needs}
 use Rattle.dist_terminal.proofs.data.data.Statement.{statement}
 use Rattle.dist_terminal.proofs.data.data.Tie as tie
-
-answer-requires : tie.Need-answer-requires
-answer-requires c κs = search needs
-
-enum-known-answer : tie.Need-enum-known-answer
-enum-known-answer c = search needs
-
-refuse-requires : tie.Need-refuse-requires
-refuse-requires c κs = search needs
-
-enum-told : tie.Need-enum-told
-enum-told c = search needs
 
 append-requires : tie.Need-append-requires
 append-requires c κs =
@@ -31,12 +17,6 @@ noted-words-requires c κs =
     let m = c .before .before .before .before .before .before .before .before in
     let k = arriving _ _ _ _ (sym (m .answer .ensures) ∙ c .before .before .before .before .before .before .enum-told .given .1) in
     k .message .few
-
-accept-requires : tie.Need-accept-requires
-accept-requires c κs = search needs
-
-same-length : tie.Need-same-length
-same-length c = search needs
 
 returns : tie.Need-returns
 unfolding dataOf storeAfter notedOf placedOf
@@ -63,9 +43,6 @@ noted-place-requires c κs =
     let p = place _ _ _ _ (c .before .before .before .before .if1 .left) (k .long) (k .message) in
     (k .message .few, (p .from, p .to))
 
-accept-requires-2 : tie.Need-accept-requires-2
-accept-requires-2 c κs = search needs
-
 returns-2 : tie.Need-returns-2
 unfolding dataOf storeAfter
 returns-2 c = simp (
@@ -73,9 +50,6 @@ returns-2 c = simp (
   c .before .before .answer2 .given .1,
   ← c .before .before .before .before .answer .ensures,
 ) (refl, refl)
-
-same-length-2 : tie.Need-same-length-2
-same-length-2 c = search needs
 
 returns-3 : tie.Need-returns-3
 unfolding dataOf storeAfter notedOf placedOf
@@ -92,18 +66,18 @@ pub data-spec : {M : Type 1} → statement M
 data-spec =
     tie.close
     (tie.spec
-    answer-requires
-    enum-known-answer
-    refuse-requires
-    enum-told
+    (λ c κs. search needs)
+    (λ c. search needs)
+    (λ c κs. search needs)
+    (λ c. search needs)
     append-requires
     noted-words-requires
-    accept-requires
-    same-length
+    (λ c κs. search needs)
+    (λ c. search needs)
     returns
     place-requires
     noted-place-requires
-    accept-requires-2
+    (λ c κs. search needs)
     returns-2
-    same-length-2
+    (λ c. search needs)
     returns-3)

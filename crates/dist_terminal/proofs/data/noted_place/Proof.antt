@@ -5,15 +5,6 @@ use Prim.Native.Nat.{_%_}
 use Rattle.dist_terminal.proofs.data.noted_place.Statement.{statement}
 use Rattle.dist_terminal.proofs.data.noted_place.Tie as tie
 
-cast-marked-with : tie.Need-cast-marked-with
-cast-marked-with c = search needs
-
-marked-with-requires : tie.Need-marked-with-requires
-marked-with-requires c κs = search needs
-
-with-marks-requires : tie.Need-with-marks-requires
-with-marks-requires c κs = search needs
-
 returns : tie.Need-returns
 returns c =
     let small : c .before .before .args .n % 256 ≡ c .before .before .args .n = omega (arith, c .before .before .pre) in
@@ -25,4 +16,4 @@ returns c =
 
 pub noted-place-spec : {M : Type 1} → statement M
 noted-place-spec =
-    tie.close (tie.spec cast-marked-with marked-with-requires with-marks-requires returns)
+    tie.close (tie.spec (λ c. search needs) (λ c κs. search needs) (λ c κs. search needs) returns)

@@ -1,18 +1,11 @@
 use native.Mathlib.Omega.{arith}
-use Rattle.dist_terminal.specs.Descriptor.{descriptorOf}
-use Rattle.dist_terminal.specs.Descriptor.{handAfter}
+use Rattle.dist_terminal.specs.Descriptor.{descriptorOf, handAfter}
 use mathlib.Core.Path.{refl, sym, _∙_}
 use Rattle.words.proofs.Fits.{taken, taken-fits}
 use Rattle.dist_terminal.proofs.Ready.{ready}
 use borrow.Author.Needs.{needs}
 use Rattle.dist_terminal.proofs.descriptor.descriptor.Statement.{statement}
 use Rattle.dist_terminal.proofs.descriptor.descriptor.Tie as tie
-
-is-short-requires : tie.Need-is-short-requires
-is-short-requires c κs = search needs
-
-refuse-requires : tie.Need-refuse-requires
-refuse-requires c κs = search needs
 
 returns : tie.Need-returns
 unfolding descriptorOf handAfter
@@ -21,27 +14,6 @@ returns c = simp (
   c .before .if1 .taken,
   ← c .before .before .is-short .ensures,
 ) (refl, refl)
-
-read-descriptor-requires : tie.Need-read-descriptor-requires
-read-descriptor-requires c κs = search needs
-
-enum-known-read : tie.Need-enum-known-read
-enum-known-read c = search needs
-
-refuse-requires-2 : tie.Need-refuse-requires-2
-refuse-requires-2 c κs = search needs
-
-enum-told : tie.Need-enum-told
-enum-told c = search needs
-
-after-reset-requires : tie.Need-after-reset-requires
-after-reset-requires c κs = search needs
-
-accept-requires : tie.Need-accept-requires
-accept-requires c κs = search needs
-
-enum-known-read-2 : tie.Need-enum-known-read-2
-enum-known-read-2 c = search needs
 
 block-requires : tie.Need-block-requires
 block-requires c κs =
@@ -72,9 +44,6 @@ returns-3 c = simp (
   ← c .before .before .before .before .before .before .is-short .ensures,
 ) (refl, refl)
 
-same-length : tie.Need-same-length
-same-length c = search needs
-
 returns-4 : tie.Need-returns-4
 unfolding descriptorOf handAfter
 returns-4 c =
@@ -90,18 +59,18 @@ pub descriptor-spec : {M : Type 1} → statement M
 descriptor-spec =
     tie.close
     (tie.spec
-    is-short-requires
-    refuse-requires
+    (λ c κs. search needs)
+    (λ c κs. search needs)
     returns
-    read-descriptor-requires
-    enum-known-read
-    refuse-requires-2
-    enum-told
-    after-reset-requires
-    accept-requires
-    enum-known-read-2
+    (λ c κs. search needs)
+    (λ c. search needs)
+    (λ c κs. search needs)
+    (λ c. search needs)
+    (λ c κs. search needs)
+    (λ c κs. search needs)
+    (λ c. search needs)
     block-requires
     returns-2
     returns-3
-    same-length
+    (λ c. search needs)
     returns-4)

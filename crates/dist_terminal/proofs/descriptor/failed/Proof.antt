@@ -2,15 +2,6 @@ use borrow.Author.Needs.{needs}
 use Rattle.dist_terminal.proofs.descriptor.failed.Statement.{statement}
 use Rattle.dist_terminal.proofs.descriptor.failed.Tie as tie
 
-distribution-confirmation-words-requires : tie.Need-distribution-confirmation-words-requires
-distribution-confirmation-words-requires c κs = search needs
-
-cleared-requires : tie.Need-cleared-requires
-cleared-requires c κs = search needs
-
-with-hand-requires : tie.Need-with-hand-requires
-with-hand-requires c κs = search needs
-
 returns : tie.Need-returns
 returns c = simp (
   c .with-hand .ensures,
@@ -21,4 +12,4 @@ returns c = simp (
 pub failed-spec : {M : Type 1} → statement M
 failed-spec =
     tie.close
-    (tie.spec distribution-confirmation-words-requires cleared-requires with-hand-requires returns)
+    (tie.spec (λ c κs. search needs) (λ c κs. search needs) (λ c κs. search needs) returns)

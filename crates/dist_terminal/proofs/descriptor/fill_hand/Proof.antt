@@ -11,21 +11,12 @@ fill-from-words-requires c κs =
     let p = c .before .before .before .before .before .pre in
     (p .0, (p .1 .0, room-of-one _ _ (c .before .if1 .taken) (p .1 .1)))
 
-same-length : tie.Need-same-length
-same-length c = search needs
-
 returns : tie.Need-returns
 unfolding takenOf
 returns c = simp (
   c .before .before .fill-from-words .ensures,
   ne-eqb _ _ (c .before .before .before .before .if1 .taken),
 )
-
-copy-bytes-requires : tie.Need-copy-bytes-requires
-copy-bytes-requires c κs = search needs
-
-same-length-2 : tie.Need-same-length-2
-same-length-2 c = search needs
 
 returns-2 : tie.Need-returns-2
 unfolding takenOf
@@ -43,8 +34,8 @@ fill-hand-spec =
     tie.close
     (tie.spec
     fill-from-words-requires
-    same-length
+    (λ c. search needs)
     returns
-    copy-bytes-requires
-    same-length-2
+    (λ c κs. search needs)
+    (λ c. search needs)
     returns-2)

@@ -3,18 +3,12 @@ use borrow.Author.Needs.{needs}
 use Rattle.dist_terminal.proofs.descriptor.is_short.Statement.{statement}
 use Rattle.dist_terminal.proofs.descriptor.is_short.Tie as tie
 
-store-short-requires : tie.Need-store-short-requires
-store-short-requires c κs = search needs
-
 returns : tie.Need-returns
 unfolding short
 returns c = simp (
   c .if1 .taken,
   ← c .before .store-short .ensures,
 )
-
-block-store-requires : tie.Need-block-store-requires
-block-store-requires c κs = search needs
 
 returns-2 : tie.Need-returns-2
 unfolding short
@@ -25,4 +19,4 @@ returns-2 c = simp (
 )
 
 pub is-short-spec : {M : Type 1} → statement M
-is-short-spec = tie.close (tie.spec store-short-requires returns block-store-requires returns-2)
+is-short-spec = tie.close (tie.spec (λ c κs. search needs) returns (λ c κs. search needs) returns-2)

@@ -7,9 +7,6 @@ returns : tie.Need-returns
 unfolding judgedOf
 returns c = simp (c .if1 .taken)
 
-same-requires : tie.Need-same-requires
-same-requires c κs = search needs
-
 returns-2 : tie.Need-returns-2
 unfolding judgedOf
 returns-2 c = simp (
@@ -17,9 +14,6 @@ returns-2 c = simp (
   ← c .before .same .ensures,
   c .before .before .if1 .left,
 )
-
-is-holding-requires : tie.Need-is-holding-requires
-is-holding-requires c κs = search needs
 
 returns-3 : tie.Need-returns-3
 unfolding judgedOf
@@ -30,9 +24,6 @@ returns-3 c = simp (
   ← c .before .before .before .same .ensures,
   c .before .before .before .before .if1 .left,
 )
-
-unmet-requires : tie.Need-unmet-requires
-unmet-requires c κs = search needs
 
 returns-4 : tie.Need-returns-4
 unfolding judgedOf
@@ -63,10 +54,10 @@ judge-spec =
     tie.close
     (tie.spec
     returns
-    same-requires
+    (λ c κs. search needs)
     returns-2
-    is-holding-requires
+    (λ c κs. search needs)
     returns-3
-    unmet-requires
+    (λ c κs. search needs)
     returns-4
     returns-5)

@@ -3,15 +3,6 @@ use borrow.Author.Needs.{needs}
 use Rattle.dist_terminal.proofs.descriptor.unmet.Statement.{statement}
 use Rattle.dist_terminal.proofs.descriptor.unmet.Tie as tie
 
-enum-told : tie.Need-enum-told
-enum-told c = search needs
-
-enum-told-2 : tie.Need-enum-told-2
-enum-told-2 c = search needs
-
-length-met-requires : tie.Need-length-met-requires
-length-met-requires c κs = search needs
-
 returns : tie.Need-returns
 unfolding unmetOf
 returns c = simp (c .enum-told .given .1)
@@ -24,4 +15,4 @@ returns-2 c = simp (
 )
 
 pub unmet-spec : {M : Type 1} → statement M
-unmet-spec = tie.close (tie.spec enum-told enum-told-2 length-met-requires returns returns-2)
+unmet-spec = tie.close (tie.spec (λ c. search needs) (λ c. search needs) (λ c κs. search needs) returns returns-2)

@@ -7,21 +7,12 @@ use Prim.Native.Nat.{_%_, _+_, _/_}
 use Rattle.dist_terminal.proofs.length.length_met.Statement.{statement}
 use Rattle.dist_terminal.proofs.length.length_met.Tie as tie
 
-add-result : tie.Need-add-result
-add-result c = search needs
-
 returns : tie.Need-returns
 unfolding lengthMet
 returns c =
     let n = c .before .before .before .args .size in
     let e : n / 2 + n % 2 ≡ (n + 1) / 2 = omega arith in
     simp (e, ne-eqb _ _ (c .before .if1 .taken))
-
-messages-requires : tie.Need-messages-requires
-messages-requires c κs = search needs
-
-places-met-requires : tie.Need-places-met-requires
-places-met-requires c κs = search needs
 
 returns-2 : tie.Need-returns-2
 unfolding lengthMet
@@ -33,4 +24,4 @@ returns-2 c = simp (
 
 pub length-met-spec : {M : Type 1} → statement M
 length-met-spec =
-    tie.close (tie.spec add-result returns messages-requires places-met-requires returns-2)
+    tie.close (tie.spec (λ c. search needs) returns (λ c κs. search needs) (λ c κs. search needs) returns-2)

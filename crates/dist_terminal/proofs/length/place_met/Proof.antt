@@ -1,4 +1,4 @@
-use borrow.Author.Tests.{not-true, not-false, le-leb, le-ltb, lt-leb, lt-ltb}
+use borrow.Author.Tests.{not-true, not-false, le-leb, lt-leb}
 use Rattle.dist_terminal.specs.Length.{placeMet}
 use borrow.Author.Needs.{needs}
 use native.Mathlib.Omega.{arith}
@@ -17,18 +17,7 @@ returns c =
     simp (
       le-leb _ _ under,
       lt-leb _ _ past,
-      le-leb _ _ (c .if1 .taken),
-      le-ltb _ _ (c .if1 .taken),
     )
-
-cast-subaddress : tie.Need-cast-subaddress
-cast-subaddress c = search needs
-
-add-subaddress : tie.Need-add-subaddress
-add-subaddress c = search needs
-
-is-marked-requires : tie.Need-is-marked-requires
-is-marked-requires c κs = search needs
 
 returns-2 : tie.Need-returns-2
 unfolding placeMet
@@ -38,18 +27,7 @@ returns-2 c =
     simp (
       not-true (c .before .is-marked .result) (c .if2 .taken),
       ← rw small at (c .before .is-marked .ensures),
-      lt-ltb _ _ (c .before .before .if1 .left),
-      lt-leb _ _ (c .before .before .if1 .left),
     )
-
-array-read-result : tie.Need-array-read-result
-array-read-result c = search needs
-
-cast-result : tie.Need-cast-result
-cast-result c = search needs
-
-message-words-requires : tie.Need-message-words-requires
-message-words-requires c κs = search needs
 
 returns-3 : tie.Need-returns-3
 unfolding placeMet
@@ -60,8 +38,6 @@ returns-3 c =
       ← c .message-words .ensures,
       not-false (c .before .before .before .is-marked .result) (c .before .before .if2 .left),
       ← rw small at (c .before .before .before .is-marked .ensures),
-      lt-ltb _ _ (c .before .before .before .before .if1 .left),
-      lt-leb _ _ (c .before .before .before .before .if1 .left),
     )
 
 pub place-met-spec : {M : Type 1} → statement M
@@ -69,11 +45,11 @@ place-met-spec =
     tie.close
     (tie.spec
     returns
-    cast-subaddress
-    add-subaddress
-    is-marked-requires
+    (λ c. search needs)
+    (λ c. search needs)
+    (λ c κs. search needs)
     returns-2
-    array-read-result
-    cast-result
-    message-words-requires
+    (λ c. search needs)
+    (λ c. search needs)
+    (λ c κs. search needs)
     returns-3)

@@ -1,6 +1,6 @@
 use borrow.Author.Tests.{not-true, not-false}
 use borrow.Author.Needs.{needs}
-use mathlib.Core.Path.{_≡_, refl, sym, _∙_}
+use mathlib.Core.Path.{_≡_, sym, _∙_}
 use Prim.Native.Nat.{_-_, _≤_}
 use Rattle.dist_terminal.proofs.Lengths.{stop, on, done}
 use native.Mathlib.Omega.{arith}
@@ -20,20 +20,11 @@ loop-holds c =
     let e : n - 0 ≡ n = omega arith in
     (omega arith, rw e)
 
-place-met-requires : tie.Need-place-met-requires Inv-loop μ-loop
-place-met-requires c κs = search needs
-
 returns : tie.Need-returns Inv-loop μ-loop
 returns c =
     let l = c .before .before .before in
     let a = l .before .args in
     sym (l .loop .inv .1 ∙ stop (a .marks) (a .size) (l .loop .k) (a .n) (c .before .before .loop-test .taken) (sym (c .before .place-met .ensures) ∙ not-true _ (c .if1 .taken)))
-
-add-k : tie.Need-add-k Inv-loop μ-loop
-add-k c = search needs
-
-loop-less : tie.Need-loop-less Inv-loop μ-loop
-loop-less c = search needs
 
 loop-again : tie.Need-loop-again Inv-loop μ-loop
 loop-again c =
@@ -54,9 +45,9 @@ places-met-spec =
     Inv-loop
     μ-loop
     loop-holds
-    place-met-requires
+    (λ c κs. search needs)
     returns
-    add-k
-    loop-less
+    (λ c. search needs)
+    (λ c. search needs)
     loop-again
     returns-2)

@@ -1,7 +1,6 @@
-use borrow.Author.Tests.{eq-eqb, ne-eqb}
+use borrow.Author.Tests.{eq-eqb, ne-eqb, not-false}
 use Rattle.dist_terminal.specs.Length.{questionOf}
 use borrow.Author.Needs.{needs}
-use borrow.Author.Tests.{not-false}
 use native.Mathlib.Omega.{arith}
 use mathlib.Core.Path.{_≡_, sym, _∙_}
 use Prim.Native.Nat.{_%_}
@@ -10,24 +9,12 @@ use Rattle.words.proofs.Ranges.{link-ranges}
 use Rattle.dist_terminal.proofs.length.question_of.Statement.{statement}
 use Rattle.dist_terminal.proofs.length.question_of.Tie as tie
 
-is-configured-requires : tie.Need-is-configured-requires
-is-configured-requires c κs = search needs
-
 returns : tie.Need-returns
 unfolding questionOf
 returns c = simp (
   c .if1 .taken,
   ← c .before .is-configured .ensures,
 )
-
-size-answer-requires : tie.Need-size-answer-requires
-size-answer-requires c κs = search needs
-
-enum-known-answer : tie.Need-enum-known-answer
-enum-known-answer c = search needs
-
-enum-told : tie.Need-enum-told
-enum-told c = search needs
 
 returns-2 : tie.Need-returns-2
 unfolding questionOf
@@ -38,18 +25,6 @@ returns-2 c = simp (
   c .before .before .before .before .before .if1 .left,
   ← c .before .before .before .before .before .before .is-configured .ensures,
 )
-
-cast-messages : tie.Need-cast-messages
-cast-messages c = search needs
-
-messages-requires : tie.Need-messages-requires
-messages-requires c κs = search needs
-
-marked-requires : tie.Need-marked-requires
-marked-requires c κs = search needs
-
-lowest-missing-requires : tie.Need-lowest-missing-requires
-lowest-missing-requires c κs = search needs
 
 returns-3 : tie.Need-returns-3
 unfolding questionOf
@@ -85,15 +60,15 @@ pub question-of-spec : {M : Type 1} → statement M
 question-of-spec =
     tie.close
     (tie.spec
-    is-configured-requires
+    (λ c κs. search needs)
     returns
-    size-answer-requires
-    enum-known-answer
-    enum-told
+    (λ c κs. search needs)
+    (λ c. search needs)
+    (λ c. search needs)
     returns-2
-    cast-messages
-    messages-requires
-    marked-requires
-    lowest-missing-requires
+    (λ c. search needs)
+    (λ c κs. search needs)
+    (λ c κs. search needs)
+    (λ c κs. search needs)
     returns-3
     returns-4)

@@ -2,11 +2,8 @@ use borrow.Author.Needs.{needs}
 use Rattle.dist_terminal.proofs.state.fresh.Statement.{statement}
 use Rattle.dist_terminal.proofs.state.fresh.Tie as tie
 
-no-marks-requires : tie.Need-no-marks-requires
-no-marks-requires c κs = search needs
-
 returns : tie.Need-returns
 returns c = simp (c .no-marks .ensures)
 
 pub fresh-spec : {M : Type 1} → statement M
-fresh-spec = tie.close (tie.spec no-marks-requires returns)
+fresh-spec = tie.close (tie.spec (λ c κs. search needs) returns)

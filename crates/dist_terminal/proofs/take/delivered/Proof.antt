@@ -2,12 +2,6 @@ use borrow.Author.Needs.{needs}
 use Rattle.dist_terminal.proofs.take.delivered.Statement.{statement}
 use Rattle.dist_terminal.proofs.take.delivered.Tie as tie
 
-distribution-confirmation-words-requires : tie.Need-distribution-confirmation-words-requires
-distribution-confirmation-words-requires c κs = search needs
-
-with-hand-requires : tie.Need-with-hand-requires
-with-hand-requires c κs = search needs
-
 returns : tie.Need-returns
 returns c = simp (
   c .with-hand .ensures,
@@ -16,4 +10,4 @@ returns c = simp (
 
 pub delivered-spec : {M : Type 1} → statement M
 delivered-spec =
-    tie.close (tie.spec distribution-confirmation-words-requires with-hand-requires returns)
+    tie.close (tie.spec (λ c κs. search needs) (λ c κs. search needs) returns)

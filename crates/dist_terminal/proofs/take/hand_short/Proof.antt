@@ -3,18 +3,12 @@ use borrow.Author.Needs.{needs}
 use Rattle.dist_terminal.proofs.take.hand_short.Statement.{statement}
 use Rattle.dist_terminal.proofs.take.hand_short.Tie as tie
 
-is-configured-requires : tie.Need-is-configured-requires
-is-configured-requires c κs = search needs
-
 returns : tie.Need-returns
 unfolding handShort
 returns c = simp (
   c .if1 .taken,
   ← c .before .is-configured .ensures,
 )
-
-block-store-requires : tie.Need-block-store-requires
-block-store-requires c κs = search needs
 
 returns-2 : tie.Need-returns-2
 unfolding handShort
@@ -26,4 +20,4 @@ returns-2 c = simp (
 
 pub hand-short-spec : {M : Type 1} → statement M
 hand-short-spec =
-    tie.close (tie.spec is-configured-requires returns block-store-requires returns-2)
+    tie.close (tie.spec (λ c κs. search needs) returns (λ c κs. search needs) returns-2)

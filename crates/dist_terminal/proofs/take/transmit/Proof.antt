@@ -1,13 +1,9 @@
-use borrow.Author.Tests.{eq-eqb, le-leb, le-ltb, lt-leb, lt-ltb, ne-eqb}
-use Rattle.dist_terminal.specs.Take.{shownAfter}
-use Rattle.dist_terminal.specs.Take.{transmitOf}
+use borrow.Author.Tests.{eq-eqb, le-ltb, lt-ltb, ne-eqb}
+use Rattle.dist_terminal.specs.Take.{shownAfter, transmitOf}
 use mathlib.Core.Path.{refl}
 use borrow.Author.Needs.{needs}
 use Rattle.dist_terminal.proofs.take.transmit.Statement.{statement}
 use Rattle.dist_terminal.proofs.take.transmit.Tie as tie
-
-is-configured-requires : tie.Need-is-configured-requires
-is-configured-requires c κs = search needs
 
 returns : tie.Need-returns
 unfolding shownAfter transmitOf
@@ -20,7 +16,6 @@ returns-2 : tie.Need-returns-2
 unfolding shownAfter transmitOf
 returns-2 c = simp (
   lt-ltb _ _ (c .if2 .taken),
-  lt-leb _ _ (c .if2 .taken),
   c .before .if1 .left,
   ← c .before .before .is-configured .ensures,
 ) (refl, refl)
@@ -29,26 +24,15 @@ returns-3 : tie.Need-returns-3
 unfolding shownAfter transmitOf
 returns-3 c = simp (
   ne-eqb _ _ (c .if3 .taken),
-  le-leb _ _ (c .before .if2 .left),
   le-ltb _ _ (c .before .if2 .left),
   c .before .before .if1 .left,
   ← c .before .before .before .is-configured .ensures,
 ) (refl, refl)
 
-slice-write-out : tie.Need-slice-write-out
-slice-write-out c = search needs
-
-slice-write-out-2 : tie.Need-slice-write-out-2
-slice-write-out-2 c = search needs
-
-same-length : tie.Need-same-length
-same-length c = search needs
-
 returns-4 : tie.Need-returns-4
 unfolding shownAfter transmitOf
 returns-4 c = simp (
   eq-eqb _ _ (c .if3 .left),
-  le-leb _ _ (c .before .if2 .left),
   le-ltb _ _ (c .before .if2 .left),
   c .before .before .if1 .left,
   ← c .before .before .before .is-configured .ensures,
@@ -58,11 +42,11 @@ pub transmit-spec : {M : Type 1} → statement M
 transmit-spec =
     tie.close
     (tie.spec
-    is-configured-requires
+    (λ c κs. search needs)
     returns
     returns-2
     returns-3
-    slice-write-out
-    slice-write-out-2
-    same-length
+    (λ c. search needs)
+    (λ c. search needs)
+    (λ c. search needs)
     returns-4)
