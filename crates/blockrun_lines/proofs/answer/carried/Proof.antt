@@ -1,3 +1,4 @@
+use mathlib.Core.Path.{_≡_, refl, sym, ap, _∙_}
 use borrow.Author.Needs.{needs}
 use Rattle.blockrun_lines.proofs.answer.carried.Statement.{statement}
 use Rattle.blockrun_lines.proofs.answer.carried.Tie as tie
@@ -27,10 +28,9 @@ same-length-2 : tie.Need-same-length-2
 same-length-2 c = search needs
 
 returns : tie.Need-returns
-returns c = simp (
-    c .before .before .before .before .done .ensures .0,
-    c .before .before .before .before .done .ensures .1,
-    c .before .before .before .before .before .before .before .enum-told .given .1)
+returns c =
+    let d = c .before .before .before .before .done .ensures in
+    simp (c .before .before .before .before .before .before .before .enum-told .given .1) (d .0, (d .1 .0, d .1 .1))
 
 same-length-3 : tie.Need-same-length-3
 same-length-3 c = search needs
@@ -39,15 +39,13 @@ same-length-4 : tie.Need-same-length-4
 same-length-4 c = search needs
 
 returns-2 : tie.Need-returns-2
-returns-2 c = simp (
-    c .before .before .before .before .reply-lost .ensures .0,
-    c .before .before .before .before .reply-lost .ensures .1,
-    c .before .before .before .before .before .before .before .enum-told2 .given .1)
+returns-2 c =
+    let d = c .before .before .before .before .reply-lost .ensures in
+    simp (c .before .before .before .before .before .before .before .enum-told2 .given .1) (d .0, (d .1 .0, d .1 .1))
 
 returns-3 : tie.Need-returns-3
-returns-3 c = simp (
-    c .told-no-reply .ensures,
-    c .before .enum-told3 .given .1)
+returns-3 c =
+    simp (c .told-no-reply .ensures, c .before .enum-told3 .given .1) (refl, (refl, refl))
 
 pub carried-spec : {M : Type 1} → statement M
 carried-spec =

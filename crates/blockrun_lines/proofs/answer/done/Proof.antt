@@ -1,3 +1,4 @@
+use mathlib.Core.Path.{_≡_, refl, sym, ap, _∙_}
 use borrow.Author.Needs.{needs}
 use Rattle.blockrun_lines.proofs.answer.done.Statement.{statement}
 use Rattle.blockrun_lines.proofs.answer.done.Tie as tie
@@ -15,10 +16,9 @@ same-length-2 : tie.Need-same-length-2
 same-length-2 c = search needs
 
 returns : tie.Need-returns
-returns c = simp (
-    c .told-done .ensures,
-    c .before .before .before .before .before .arrive .ensures .0,
-    c .before .before .before .before .before .arrive .ensures .1)
+returns c =
+    let e = c .before .before .before .before .before .arrive .ensures in
+    simp (c .told-done .ensures, e .0) (refl, (e .1 .0, e .1 .1))
 
 pub done-spec : {M : Type 1} → statement M
 done-spec =

@@ -1,3 +1,4 @@
+use mathlib.Core.Path.{_≡_, refl, sym, ap, _∙_}
 use borrow.Author.Needs.{needs}
 use Rattle.blockrun_lines.proofs.answer.reply_lost.Statement.{statement}
 use Rattle.blockrun_lines.proofs.answer.reply_lost.Tie as tie
@@ -15,10 +16,9 @@ same-length-2 : tie.Need-same-length-2
 same-length-2 c = search needs
 
 returns : tie.Need-returns
-returns c = simp (
-    c .told-no-reply .ensures,
-    c .before .before .before .before .before .arrive .ensures .0,
-    c .before .before .before .before .before .arrive .ensures .1)
+returns c =
+    let e = c .before .before .before .before .before .arrive .ensures in
+    simp (c .told-no-reply .ensures, e .0) (refl, (e .1 .0, e .1 .1))
 
 pub reply-lost-spec : {M : Type 1} → statement M
 reply-lost-spec =

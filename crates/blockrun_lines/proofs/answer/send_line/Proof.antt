@@ -1,6 +1,10 @@
+use Rattle.blockrun_lines.specs.Answers.{sendLine, sendBlock}
+use Rattle.blockrun_text.specs.Hex.{blockSizeOf, blockOf}
+use lib.Seq.{sets, length-sets}
+use lib.ListN.{length, take}
+use Prim.Native.Nat.{min, _-_}
+use mathlib.Core.Path.{_≡_, refl, sym, ap, _∙_}
 use native.Mathlib.Omega.{arith}
-use Rattle.blockrun_lines.specs.Answers.{sendBlock}
-use Rattle.blockrun_lines.specs.Answers.{sendLine}
 use borrow.Author.Needs.{needs}
 use Rattle.blockrun_lines.proofs.answer.send_line.Statement.{statement}
 use Rattle.blockrun_lines.proofs.answer.send_line.Tie as tie
@@ -15,7 +19,10 @@ part-submit-start : tie.Need-part-submit-start
 part-submit-start c = search needs
 
 part-submit-end : tie.Need-part-submit-end
-part-submit-end c = omega arith
+unfolding blockSizeOf
+part-submit-end c =
+    let k = c .before .before .before in
+    omega (arith, k .read-block .ensures .0, simp length-sets at (ap length (k .read-block .ensures .1)))
 
 submit-requires : tie.Need-submit-requires
 submit-requires c κs = search needs
@@ -27,12 +34,15 @@ same-length-2 : tie.Need-same-length-2
 same-length-2 c = search needs
 
 returns : tie.Need-returns
-unfolding sendBlock sendLine
-returns c = simp (
-    c .before .before .submit .ensures .0,
-    c .before .before .submit .ensures .1,
-    ← c .before .before .before .before .before .before .before .before .read-block .ensures .0,
-    c .before .before .before .before .before .before .before .before .read-block .ensures .1)
+unfolding sendLine sendBlock
+returns c =
+    let k = c .before .before .before .before .before .before .before .before in
+    let a = k .before .before .before .before .before .args in
+    let e = k .read-block .ensures in
+    let z : k .read-block .result - 0 ≡ blockSizeOf (a .line .now) (a .from) (a .digits) (length (a .room .now)) = omega (arith, e .0) in
+    let w : take (k .read-block .result - 0) (k .read-block .last .1 .1 .1 .0) ≡ sendBlock (a .line .now) (a .from) (a .digits) (a .room .now) = rw (z, e .1) in
+    let s = rw w at (c .before .before .submit .ensures) in
+    (s .0, (e .1, s .1))
 
 pub send-line-spec : {M : Type 1} → statement M
 send-line-spec =
