@@ -2,5 +2,5 @@
 mod turns;
 
 fn main() {
-    turns::run();
+    turns::answer_input();
 }

@@ -42,7 +42,14 @@ pub fn stepped(s: Stepped, number: u64, out: &mut [u8], at: usize) -> Answered
 }
 
 // `take`: the bytes, by way of the lent room.
-pub fn take_line(p: Pair, number: u64, hand: &[u8], room: &mut [u8], out: &mut [u8], at: usize) -> Answered
+pub fn take_line(
+    p: Pair,
+    number: u64,
+    hand: &[u8],
+    room: &mut [u8],
+    out: &mut [u8],
+    at: usize,
+) -> Answered
     ensures result { λ r. ⌜ r ≡ takeLine p number (now (hand .entry)) (now (room .entry)) (length (now (out .entry))) at ⌝ }
     ensures bytes { λ _. ⌜ (now (room .exit) ≡ Events.bufferAfter p (now (hand .entry)) (now (room .entry)))
         × (now (out .exit) ≡ sets (now (out .entry)) at (takeLineText p number (now (hand .entry)) (now (room .entry)))) ⌝ }
@@ -64,7 +71,15 @@ pub fn take_line(p: Pair, number: u64, hand: &[u8], room: &mut [u8], out: &mut [
 }
 
 // `send`: the block of a hex field, by way of the lent room.
-pub fn send_line(p: Pair, quality: Quality, line: &[u8], from: usize, digits: usize, room: &mut [u8], store: &mut [u8]) -> Stepped
+pub fn send_line(
+    p: Pair,
+    quality: Quality,
+    line: &[u8],
+    from: usize,
+    digits: usize,
+    room: &mut [u8],
+    store: &mut [u8],
+) -> Stepped
     ensures result { λ r. ⌜ r ≡ sendLine p quality (now (line .entry)) from digits (now (room .entry)) (length (now (store .entry))) ⌝ }
     ensures bytes { λ _. ⌜ (now (room .exit) ≡ sets (now (room .entry)) 0 (blockOf (now (line .entry)) from digits))
         × (now (store .exit) ≡ Events.blockAfter p (sendBlock (now (line .entry)) from digits (now (room .entry))) (now (store .entry))) ⌝ }
@@ -124,7 +139,14 @@ fn carried(p: Pair, way: Way, store: &[u8], places: &mut [u8], hand: &mut [u8]) 
 }
 
 // The message that was asked for, with its words, or what its read found.
-fn put_message(asked: Asked, words: &[u16], found: Finding, number: u64, out: &mut [u8], at: usize) -> usize
+fn put_message(
+    asked: Asked,
+    words: &[u16],
+    found: Finding,
+    number: u64,
+    out: &mut [u8],
+    at: usize,
+) -> usize
     ensures { λ r. ⌜ (r ≡ behind (length (now (out .entry))) at (length (messageText number asked (now (words .entry)) found)))
         × (now (out .exit) ≡ sets (now (out .entry)) at (messageText number asked (now (words .entry)) found)) ⌝ }
 {
@@ -145,7 +167,16 @@ fn put_message(asked: Asked, words: &[u16], found: Finding, number: u64, out: &m
 }
 
 // `bus`: the message asked for fares so on the bus.
-pub fn bus_line(p: Pair, way: Way, number: u64, store: &[u8], places: &mut [u8], hand: &mut [u8], out: &mut [u8], at: usize) -> Answered
+pub fn bus_line(
+    p: Pair,
+    way: Way,
+    number: u64,
+    store: &[u8],
+    places: &mut [u8],
+    hand: &mut [u8],
+    out: &mut [u8],
+    at: usize,
+) -> Answered
     ensures { λ r. ⌜ (r .at ≤ length (now (out .exit))) × (length (now (out .exit)) ≡ length (now (out .entry))) ⌝ }
 {
     let mut words = [0u16; 32];

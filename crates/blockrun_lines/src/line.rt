@@ -22,7 +22,17 @@ pub fn other_line(p: Pair, number: u64, out: &mut [u8], at: usize) -> Answered
 }
 
 // The form is tested before the link.
-pub fn answer_line(p: Pair, number: u64, line: &[u8], store: &mut [u8], places: &mut [u8], hand: &mut [u8], room: &mut [u8], out: &mut [u8], at: usize) -> Answered
+pub fn answer_line(
+    p: Pair,
+    number: u64,
+    line: &[u8],
+    store: &mut [u8],
+    places: &mut [u8],
+    hand: &mut [u8],
+    room: &mut [u8],
+    out: &mut [u8],
+    at: usize,
+) -> Answered
     ensures { λ r. ⌜ (r .at ≤ length (now (out .exit))) × (length (now (out .exit)) ≡ length (now (out .entry))) ⌝ }
 {
     let read = read_line(line);
@@ -35,7 +45,17 @@ pub fn answer_line(p: Pair, number: u64, line: &[u8], store: &mut [u8], places: 
             largest,
             window,
         } => {
-            let s = dist_pair::events::configure(p, address, mode, subaddress, largest, window, store.len(), places, hand.len());
+            let s = dist_pair::events::configure(
+                p,
+                address,
+                mode,
+                subaddress,
+                largest,
+                window,
+                store.len(),
+                places,
+                hand.len(),
+            );
             stepped(s, number, out, at)
         }
         Line::Reset => stepped(dist_pair::events::reset(p), number, out, at),
@@ -45,7 +65,12 @@ pub fn answer_line(p: Pair, number: u64, line: &[u8], store: &mut [u8], places: 
             quality,
             at: from,
             digits,
-        } => stepped(send_line(p, quality, line, from, digits, room, store), number, out, at),
+        } => stepped(
+            send_line(p, quality, line, from, digits, room, store),
+            number,
+            out,
+            at,
+        ),
         Line::Done => bus_line(p, Way::Done, number, store, places, hand, out, at),
         Line::ReplyLost => bus_line(p, Way::ReplyLost, number, store, places, hand, out, at),
         Line::NotArrived => bus_line(p, Way::NotArrived, number, store, places, hand, out, at),

@@ -1,37 +1,19 @@
 use Rattle.blockrun_lines.specs.Answers.{sendLine, sendBlock}
-use Rattle.blockrun_text.specs.Hex.{blockSizeOf, blockOf}
-use lib.Seq.{sets, length-sets}
+use Rattle.blockrun_text.specs.Hex.{blockSizeOf}
+use lib.Seq.{length-sets}
 use lib.ListN.{length, take}
-use Prim.Native.Nat.{min, _-_}
-use mathlib.Core.Path.{_≡_, refl, sym, ap, _∙_}
+use Prim.Native.Nat.{_-_}
+use mathlib.Core.Path.{_≡_, ap}
 use native.Mathlib.Omega.{arith}
 use borrow.Author.Needs.{needs}
 use Rattle.blockrun_lines.proofs.answer.send_line.Statement.{statement}
 use Rattle.blockrun_lines.proofs.answer.send_line.Tie as tie
-
-read-block-requires : tie.Need-read-block-requires
-read-block-requires c κs = search needs
-
-sub-submit : tie.Need-sub-submit
-sub-submit c = search needs
-
-part-submit-start : tie.Need-part-submit-start
-part-submit-start c = search needs
 
 part-submit-end : tie.Need-part-submit-end
 unfolding blockSizeOf
 part-submit-end c =
     let k = c .before .before .before in
     omega (arith, k .read-block .ensures .0, simp length-sets at (ap length (k .read-block .ensures .1)))
-
-submit-requires : tie.Need-submit-requires
-submit-requires c κs = search needs
-
-same-length : tie.Need-same-length
-same-length c = search needs
-
-same-length-2 : tie.Need-same-length-2
-same-length-2 c = search needs
 
 returns : tie.Need-returns
 unfolding sendLine sendBlock
@@ -48,11 +30,11 @@ pub send-line-spec : {M : Type 1} → statement M
 send-line-spec =
     tie.close
     (tie.spec
-    read-block-requires
-    sub-submit
-    part-submit-start
+    (λ c κs. search needs)
+    (λ c. search needs)
+    (λ c. search needs)
     part-submit-end
-    submit-requires
-    same-length
-    same-length-2
+    (λ c κs. search needs)
+    (λ c. search needs)
+    (λ c. search needs)
     returns)

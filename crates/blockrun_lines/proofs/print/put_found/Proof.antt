@@ -5,21 +5,6 @@ use mathlib.Core.List.{[], _∷_, _++_}
 use Rattle.blockrun_lines.proofs.print.put_found.Statement.{statement}
 use Rattle.blockrun_lines.proofs.print.put_found.Tie as tie
 
-put-start-requires : tie.Need-put-start-requires
-put-start-requires c κs = search needs
-
-slice-aggregate-put-text : tie.Need-slice-aggregate-put-text
-slice-aggregate-put-text c = search needs
-
-put-text-requires : tie.Need-put-text-requires
-put-text-requires c κs = search needs
-
-put-finding-requires : tie.Need-put-finding-requires
-put-finding-requires c κs = search needs
-
-same-length : tie.Need-same-length
-same-length c = search needs
-
 returns : tie.Need-returns
 unfolding foundText
 returns c =
@@ -35,9 +20,9 @@ pub put-found-spec : {M : Type 1} → statement M
 put-found-spec =
     tie.close
     (tie.spec
-    put-start-requires
-    slice-aggregate-put-text
-    put-text-requires
-    put-finding-requires
-    same-length
+    (λ c κs. search needs)
+    (λ c. search needs)
+    (λ c κs. search needs)
+    (λ c κs. search needs)
+    (λ c. search needs)
     returns)

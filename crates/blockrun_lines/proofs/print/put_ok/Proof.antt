@@ -5,18 +5,6 @@ use mathlib.Core.List.{[], _∷_}
 use Rattle.blockrun_lines.proofs.print.put_ok.Statement.{statement}
 use Rattle.blockrun_lines.proofs.print.put_ok.Tie as tie
 
-put-start-requires : tie.Need-put-start-requires
-put-start-requires c κs = search needs
-
-slice-aggregate-put-text : tie.Need-slice-aggregate-put-text
-slice-aggregate-put-text c = search needs
-
-put-text-requires : tie.Need-put-text-requires
-put-text-requires c κs = search needs
-
-same-length : tie.Need-same-length
-same-length c = search needs
-
 returns : tie.Need-returns
 unfolding okText
 returns c =
@@ -29,4 +17,4 @@ returns c =
 pub put-ok-spec : {M : Type 1} → statement M
 put-ok-spec =
     tie.close
-    (tie.spec put-start-requires slice-aggregate-put-text put-text-requires same-length returns)
+    (tie.spec (λ c κs. search needs) (λ c. search needs) (λ c κs. search needs) (λ c. search needs) returns)

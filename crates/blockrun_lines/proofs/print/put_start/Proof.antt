@@ -6,18 +6,6 @@ use mathlib.Core.List.{[], _∷_}
 use Rattle.blockrun_lines.proofs.print.put_start.Statement.{statement}
 use Rattle.blockrun_lines.proofs.print.put_start.Tie as tie
 
-put-decimal-requires : tie.Need-put-decimal-requires
-put-decimal-requires c κs = search needs
-
-slice-aggregate-put-text : tie.Need-slice-aggregate-put-text
-slice-aggregate-put-text c = search needs
-
-put-text-requires : tie.Need-put-text-requires
-put-text-requires c κs = search needs
-
-same-length : tie.Need-same-length
-same-length c = search needs
-
 returns : tie.Need-returns
 unfolding startText
 returns c =
@@ -30,4 +18,4 @@ returns c =
 pub put-start-spec : {M : Type 1} → statement M
 put-start-spec =
     tie.close
-    (tie.spec put-decimal-requires slice-aggregate-put-text put-text-requires same-length returns)
+    (tie.spec (λ c κs. search needs) (λ c. search needs) (λ c κs. search needs) (λ c. search needs) returns)

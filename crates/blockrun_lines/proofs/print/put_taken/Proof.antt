@@ -7,27 +7,6 @@ use mathlib.Core.List.{[], _∷_, _++_}
 use Rattle.blockrun_lines.proofs.print.put_taken.Statement.{statement}
 use Rattle.blockrun_lines.proofs.print.put_taken.Tie as tie
 
-put-start-requires : tie.Need-put-start-requires
-put-start-requires c κs = search needs
-
-slice-aggregate-put-text : tie.Need-slice-aggregate-put-text
-slice-aggregate-put-text c = search needs
-
-put-text-requires : tie.Need-put-text-requires
-put-text-requires c κs = search needs
-
-put-hex-bytes-requires : tie.Need-put-hex-bytes-requires
-put-hex-bytes-requires c κs = search needs
-
-slice-aggregate-put-text-2 : tie.Need-slice-aggregate-put-text-2
-slice-aggregate-put-text-2 c = search needs
-
-put-text-requires-2 : tie.Need-put-text-requires-2
-put-text-requires-2 c κs = search needs
-
-same-length : tie.Need-same-length
-same-length c = search needs
-
 returns : tie.Need-returns
 unfolding takeText
 returns c =
@@ -45,11 +24,11 @@ pub put-taken-spec : {M : Type 1} → statement M
 put-taken-spec =
     tie.close
     (tie.spec
-    put-start-requires
-    slice-aggregate-put-text
-    put-text-requires
-    put-hex-bytes-requires
-    slice-aggregate-put-text-2
-    put-text-requires-2
-    same-length
+    (λ c κs. search needs)
+    (λ c. search needs)
+    (λ c κs. search needs)
+    (λ c κs. search needs)
+    (λ c. search needs)
+    (λ c κs. search needs)
+    (λ c. search needs)
     returns)

@@ -2,12 +2,6 @@ use borrow.Author.Needs.{needs}
 use Rattle.dist_pair.proofs.bus.catch.Statement.{statement}
 use Rattle.dist_pair.proofs.bus.catch.Tie as tie
 
-with-terminal-requires : tie.Need-with-terminal-requires
-with-terminal-requires c κs = search needs
-
-answer-with-requires : tie.Need-answer-with-requires
-answer-with-requires c κs = search needs
-
 returns : tie.Need-returns
 returns c = simp (
   c .answer-with .ensures,
@@ -15,4 +9,4 @@ returns c = simp (
 )
 
 pub catch-spec : {M : Type 1} → statement M
-catch-spec = tie.close (tie.spec with-terminal-requires answer-with-requires returns)
+catch-spec = tie.close (tie.spec (λ c κs. search needs) (λ c κs. search needs) returns)

@@ -12,39 +12,12 @@ use Rattle.dist_controller.proofs.Counted.{words-few}
 use Rattle.dist_pair.proofs.bus.deliver.Statement.{statement}
 use Rattle.dist_pair.proofs.bus.deliver.Tie as tie
 
-slice-aggregate-words-asked : tie.Need-slice-aggregate-words-asked
-slice-aggregate-words-asked c = search needs
-
-words-asked-requires : tie.Need-words-asked-requires
-words-asked-requires c κs = search needs
-
-sub-receive : tie.Need-sub-receive
-sub-receive c = search needs
-
-part-receive-start : tie.Need-part-receive-start
-part-receive-start c = search needs
-
 part-receive-end : tie.Need-part-receive-end
 unfolding wordsCount
 part-receive-end c =
     let m = c .before .before in
     let a = m .before .before .before .before .before .args in
     omega (arith, m .words-asked .ensures .0, words-few (a .p .controller) (a .store .now))
-
-receive-requires : tie.Need-receive-requires
-receive-requires c κs = search needs
-
-with-terminal-requires : tie.Need-with-terminal-requires
-with-terminal-requires c κs = search needs
-
-answer-with-requires : tie.Need-answer-with-requires
-answer-with-requires c κs = search needs
-
-same-length : tie.Need-same-length
-same-length c = search needs
-
-same-length-2 : tie.Need-same-length-2
-same-length-2 c = search needs
 
 returns : tie.Need-returns
 unfolding handReceived placesReceived receiveOf wordsCount wordsAfter
@@ -64,14 +37,14 @@ pub deliver-spec : {M : Type 1} → statement M
 deliver-spec =
     tie.close
     (tie.spec
-    slice-aggregate-words-asked
-    words-asked-requires
-    sub-receive
-    part-receive-start
+    (λ c. search needs)
+    (λ c κs. search needs)
+    (λ c. search needs)
+    (λ c. search needs)
     part-receive-end
-    receive-requires
-    with-terminal-requires
-    answer-with-requires
-    same-length
-    same-length-2
+    (λ c κs. search needs)
+    (λ c κs. search needs)
+    (λ c κs. search needs)
+    (λ c. search needs)
+    (λ c. search needs)
     returns)

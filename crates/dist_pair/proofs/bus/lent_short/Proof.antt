@@ -3,18 +3,12 @@ use borrow.Author.Needs.{needs}
 use Rattle.dist_pair.proofs.bus.lent_short.Statement.{statement}
 use Rattle.dist_pair.proofs.bus.lent_short.Tie as tie
 
-short-requires : tie.Need-short-requires
-short-requires c κs = search needs
-
 returns : tie.Need-returns
 unfolding lentShort
 returns c = simp (
   c .if1 .taken,
   ← c .before .short .ensures,
 )
-
-is-short-requires : tie.Need-is-short-requires
-is-short-requires c κs = search needs
 
 returns-2 : tie.Need-returns-2
 unfolding lentShort
@@ -25,4 +19,4 @@ returns-2 c = simp (
 )
 
 pub lent-short-spec : {M : Type 1} → statement M
-lent-short-spec = tie.close (tie.spec short-requires returns is-short-requires returns-2)
+lent-short-spec = tie.close (tie.spec (λ c κs. search needs) returns (λ c κs. search needs) returns-2)

@@ -3,24 +3,6 @@ use borrow.Author.Needs.{needs}
 use Rattle.dist_pair.proofs.bus.tell.Statement.{statement}
 use Rattle.dist_pair.proofs.bus.tell.Tie as tie
 
-told-requires : tie.Need-told-requires
-told-requires c κs = search needs
-
-enum-known-answer : tie.Need-enum-known-answer
-enum-known-answer c = search needs
-
-refuse-requires : tie.Need-refuse-requires
-refuse-requires c κs = search needs
-
-enum-told : tie.Need-enum-told
-enum-told c = search needs
-
-with-controller-requires : tie.Need-with-controller-requires
-with-controller-requires c κs = search needs
-
-answer-with-requires : tie.Need-answer-with-requires
-answer-with-requires c κs = search needs
-
 returns : tie.Need-returns
 unfolding tellOf
 returns c = simp (
@@ -42,11 +24,11 @@ pub tell-spec : {M : Type 1} → statement M
 tell-spec =
     tie.close
     (tie.spec
-    told-requires
-    enum-known-answer
-    refuse-requires
-    enum-told
-    with-controller-requires
-    answer-with-requires
+    (λ c κs. search needs)
+    (λ c. search needs)
+    (λ c κs. search needs)
+    (λ c. search needs)
+    (λ c κs. search needs)
+    (λ c κs. search needs)
     returns
     returns-2)

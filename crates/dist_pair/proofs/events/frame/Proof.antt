@@ -3,12 +3,6 @@ use borrow.Author.Needs.{needs}
 use Rattle.dist_pair.proofs.events.frame.Statement.{statement}
 use Rattle.dist_pair.proofs.events.frame.Tie as tie
 
-frame-requires : tie.Need-frame-requires
-frame-requires c κs = search needs
-
-controller-stepped-requires : tie.Need-controller-stepped-requires
-controller-stepped-requires c κs = search needs
-
 returns : tie.Need-returns
 unfolding frameOf
 returns c = simp (
@@ -17,4 +11,4 @@ returns c = simp (
 )
 
 pub frame-spec : {M : Type 1} → statement M
-frame-spec = tie.close (tie.spec frame-requires controller-stepped-requires returns)
+frame-spec = tie.close (tie.spec (λ c κs. search needs) (λ c κs. search needs) returns)

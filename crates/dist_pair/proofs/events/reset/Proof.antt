@@ -3,12 +3,6 @@ use borrow.Author.Needs.{needs}
 use Rattle.dist_pair.proofs.events.reset.Statement.{statement}
 use Rattle.dist_pair.proofs.events.reset.Tie as tie
 
-reset-requires : tie.Need-reset-requires
-reset-requires c κs = search needs
-
-controller-stepped-requires : tie.Need-controller-stepped-requires
-controller-stepped-requires c κs = search needs
-
 returns : tie.Need-returns
 unfolding resetOf
 returns c = simp (
@@ -17,4 +11,4 @@ returns c = simp (
 )
 
 pub reset-spec : {M : Type 1} → statement M
-reset-spec = tie.close (tie.spec reset-requires controller-stepped-requires returns)
+reset-spec = tie.close (tie.spec (λ c κs. search needs) (λ c κs. search needs) returns)
