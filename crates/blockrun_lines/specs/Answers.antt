@@ -2,7 +2,7 @@
 -- Assumes nothing.
 use Prim.Native.Nat.{ℕ, min}
 use mathlib.Core.List.{List, []}
-use lib.ListN.{length, take}
+use lib.ListN.{length, take, replicate}
 use lib.Seq.{sets}
 use Rattle.words.specs.declared.control.Quality.{Quality}
 use Rattle.blockrun_text.specs.Printing.{behind}
@@ -14,6 +14,9 @@ use Rattle.dist_controller.specs.declared.report.Reported.{Reported}
 use Rattle.dist_controller.specs.declared.report.Reported.the-variants as Reported
 use Rattle.dist_terminal.specs.declared.take.Take.{Take}
 use Rattle.dist_terminal.specs.declared.take.Take.the-variants as Take
+use Rattle.dist_controller.specs.Message as Message
+use Rattle.dist_controller.specs.declared.message.Ask.{Ask}
+use Rattle.dist_controller.specs.declared.message.Ask.the-variants as Ask
 use Rattle.dist_pair.specs.Events as Events
 use Rattle.dist_pair.specs.Bus as Bus
 use Rattle.dist_pair.specs.declared.state.Pair.{Pair}
@@ -87,3 +90,39 @@ abbrev pub messageText : ℕ → Asked → List ℕ → Finding → List ℕ
 messageText number Nothing words found = noText number 18
 messageText number (Receive subaddress n) words found = sentText number subaddress (take (min n (length words)) words)
 messageText number (Transmit subaddress n) words found = foundText number found
+
+-- a bus line: what the controller asks for before it, with its words; then the message fares as the line says
+abbrev pub askOf : Pair → List ℕ → Ask
+askOf p store = Message.messageOf (p .controller) (length store) 32
+
+abbrev pub wordsSent : Pair → List ℕ → List ℕ
+wordsSent p store = Message.bufferAfter (p .controller) store (replicate 32 0)
+
+abbrev pub busPairIn : Ask → Pair → Way → List ℕ → ℕ → ℕ → Pair
+busPairIn (Ask.Refused n) p way store places hand = p
+busPairIn (Ask.Message asked) p way store places hand = carriedOf p way store places hand .pair
+
+unfoldable pub busPair : Pair → Way → List ℕ → ℕ → ℕ → Pair
+busPair p way store places hand = busPairIn (askOf p store) p way store places hand
+
+abbrev pub busTextIn : Ask → Pair → Way → ℕ → List ℕ → ℕ → ℕ → List ℕ
+busTextIn (Ask.Refused n) p way number store places hand = noText number n
+busTextIn (Ask.Message asked) p way number store places hand =
+    messageText number asked (wordsSent p store) (foundOf (carriedOf p way store places hand .pair))
+
+unfoldable pub busText : Pair → Way → ℕ → List ℕ → ℕ → ℕ → List ℕ
+busText p way number store places hand = busTextIn (askOf p store) p way number store places hand
+
+abbrev pub busPlacesIn : Ask → Pair → Way → List ℕ → List ℕ → ℕ → List ℕ
+busPlacesIn (Ask.Refused n) p way store places hand = places
+busPlacesIn (Ask.Message asked) p way store places hand = placesCarried p way store places hand
+
+unfoldable pub busPlaces : Pair → Way → List ℕ → List ℕ → ℕ → List ℕ
+busPlaces p way store places hand = busPlacesIn (askOf p store) p way store places hand
+
+abbrev pub busHandIn : Ask → Pair → Way → List ℕ → List ℕ → List ℕ → List ℕ
+busHandIn (Ask.Refused n) p way store places hand = hand
+busHandIn (Ask.Message asked) p way store places hand = handCarried p way store places hand
+
+unfoldable pub busHand : Pair → Way → List ℕ → List ℕ → List ℕ → List ℕ
+busHand p way store places hand = busHandIn (askOf p store) p way store places hand

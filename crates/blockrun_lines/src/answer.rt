@@ -19,6 +19,7 @@ ghost use lib.ListN.{length, take};
 ghost use lib.Seq.{sets};
 ghost use Rattle.blockrun_lines.specs.Lines.{answerText};
 ghost use Rattle.blockrun_lines.specs.Answers.{steppedOf, takeLine, takeLineText, foundOf, sendLine, sendBlock, doneOf, replyLostOf, carriedOf, placesCarried, handCarried, messageText};
+ghost use Rattle.blockrun_lines.specs.Answers.{answered, busPair, busText, busPlaces, busHand};
 ghost use Rattle.blockrun_text.specs.Printing.{behind};
 ghost use Rattle.blockrun_text.specs.Hex.{blockOf, blockSizeOf};
 ghost use Rattle.dist_pair.specs.Events as Events;
@@ -177,7 +178,11 @@ pub fn bus_line(
     out: &mut [u8],
     at: usize,
 ) -> Answered
-    ensures { λ r. ⌜ (r .at ≤ length (now (out .exit))) × (length (now (out .exit)) ≡ length (now (out .entry))) ⌝ }
+    ensures result { λ r. ⌜ r ≡ answered (busPair p way (now (store .entry)) (length (now (places .entry))) (length (now (hand .entry))))
+        (busText p way number (now (store .entry)) (length (now (places .entry))) (length (now (hand .entry)))) (length (now (out .entry))) at ⌝ }
+    ensures bytes { λ _. ⌜ (now (places .exit) ≡ busPlaces p way (now (store .entry)) (now (places .entry)) (length (now (hand .entry))))
+        × ((now (hand .exit) ≡ busHand p way (now (store .entry)) (now (places .entry)) (now (hand .entry)))
+        × (now (out .exit) ≡ sets (now (out .entry)) at (busText p way number (now (store .entry)) (length (now (places .entry))) (length (now (hand .entry)))))) ⌝ }
 {
     let mut words = [0u16; 32];
     let ask = dist_pair::bus::message(p, store, &mut words);

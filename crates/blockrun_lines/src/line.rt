@@ -12,10 +12,17 @@ use dist_pair::state::Pair;
 ghost use mathlib.Core.Path.{_≡_};
 ghost use Prim.Native.Nat.{_≤_};
 ghost use lib.ListN.{length};
+ghost use lib.Seq.{sets};
+ghost use Rattle.blockrun_text.specs.Forms.{lineOf};
+ghost use Rattle.blockrun_lines.specs.Lines.{noText};
+ghost use Rattle.blockrun_lines.specs.Answers.{answered};
+ghost use Rattle.blockrun_lines.specs.Answering.{lent, linePair, lineText, lineStore, linePlaces, lineHand, lineRoom};
 
 // A line of another form does nothing.
 pub fn other_line(p: Pair, number: u64, out: &mut [u8], at: usize) -> Answered
-    ensures { λ r. ⌜ (r .at ≤ length (now (out .exit))) × (length (now (out .exit)) ≡ length (now (out .entry))) ⌝ }
+    ensures result { λ r. ⌜ r ≡ answered p (noText number 0) (length (now (out .entry))) at ⌝ }
+    ensures bytes { λ r. ⌜ ((r .at ≤ length (now (out .exit))) × (length (now (out .exit)) ≡ length (now (out .entry))))
+        × (now (out .exit) ≡ sets (now (out .entry)) at (noText number 0)) ⌝ }
 {
     let next = put_no(out, at, number, 0);
     Answered { pair: p, at: next }
@@ -33,7 +40,14 @@ pub fn answer_line(
     out: &mut [u8],
     at: usize,
 ) -> Answered
-    ensures { λ r. ⌜ (r .at ≤ length (now (out .exit))) × (length (now (out .exit)) ≡ length (now (out .entry))) ⌝ }
+    ensures result { λ r. ⌜ r ≡ answered (linePair (lineOf (now (line .entry))) p (now (line .entry)) (lent (now (store .entry)) (now (places .entry)) (now (hand .entry)) (now (room .entry))))
+        (lineText (lineOf (now (line .entry))) p number (now (line .entry)) (lent (now (store .entry)) (now (places .entry)) (now (hand .entry)) (now (room .entry)))) (length (now (out .entry))) at ⌝ }
+    ensures bytes { λ r. ⌜ ((r .at ≤ length (now (out .exit))) × (length (now (out .exit)) ≡ length (now (out .entry))))
+        × ((now (store .exit) ≡ lineStore (lineOf (now (line .entry))) p (now (line .entry)) (lent (now (store .entry)) (now (places .entry)) (now (hand .entry)) (now (room .entry))))
+        × ((now (places .exit) ≡ linePlaces (lineOf (now (line .entry))) p (lent (now (store .entry)) (now (places .entry)) (now (hand .entry)) (now (room .entry))))
+        × ((now (hand .exit) ≡ lineHand (lineOf (now (line .entry))) p (lent (now (store .entry)) (now (places .entry)) (now (hand .entry)) (now (room .entry))))
+        × ((now (room .exit) ≡ lineRoom (lineOf (now (line .entry))) p (now (line .entry)) (lent (now (store .entry)) (now (places .entry)) (now (hand .entry)) (now (room .entry))))
+        × (now (out .exit) ≡ sets (now (out .entry)) at (lineText (lineOf (now (line .entry))) p number (now (line .entry)) (lent (now (store .entry)) (now (places .entry)) (now (hand .entry)) (now (room .entry))))))))) ⌝ }
 {
     let read = read_line(line);
     match read {
