@@ -43,7 +43,7 @@ no-leading-zero n h j = no-zero 20 n [] h j
 
 -- ---- by the reader of a line
 
-spelled-tail : (k n : ℕ) (tail : List ℕ) → spelledOn k n tail ≡ spelledOn k n [] ++ tail
+pub spelled-tail : (k n : ℕ) (tail : List ℕ) → spelledOn k n tail ≡ spelledOn k n [] ++ tail
 unfolding spelledOn
 spelled-tail zero n tail = refl
 spelled-tail (suc k) n tail =
@@ -68,11 +68,11 @@ more-read n at m good head tail v =
     v ∙ digit-read true (min (n / 10) 100000) (at + m) (n % 10) tail (omega arith) ∙ rw (w, a)
 
 -- n has one digit, or more
-spelled-short : (k n : ℕ) (tail : List ℕ) → n < 10 → spelledOn (suc k) n tail ≡ (48 + n % 10) ∷ tail
+pub spelled-short : (k n : ℕ) (tail : List ℕ) → n < 10 → spelledOn (suc k) n tail ≡ (48 + n % 10) ∷ tail
 unfolding spelledOn
 spelled-short k n tail h = simp (lt-ltb n 10 h)
 
-spelled-long : (k n : ℕ) (tail : List ℕ) → 10 ≤ n → spelledOn (suc k) n tail ≡ spelledOn k (n / 10) ((48 + n % 10) ∷ tail)
+pub spelled-long : (k n : ℕ) (tail : List ℕ) → 10 ≤ n → spelledOn (suc k) n tail ≡ spelledOn k (n / 10) ((48 + n % 10) ∷ tail)
 unfolding spelledOn
 spelled-long k n tail h = simp (le-ltb n 10 h)
 

@@ -27,7 +27,7 @@ put-least l text a n e =
 
 -- ---- texts that follow on each other
 
-sets-append : (u v l : List ℕ) (a : ℕ) → sets (sets l a u) (a + length u) v ≡ sets l a (u ++ v)
+pub sets-append : (u v l : List ℕ) (a : ℕ) → sets (sets l a u) (a + length u) v ≡ sets l a (u ++ v)
 sets-append [] v l a = rw (add-zero a)
 sets-append (x ∷ u) v l a = rw (add-suc a (length u), ← suc-add a (length u)) (sets-append u v (set l a x) (suc a))
 
@@ -61,38 +61,6 @@ pub length-wordsOf : (s : List ℕ) → length (wordsOf s) ≡ 5 * length s
 unfolding wordsOf
 length-wordsOf [] = refl
 length-wordsOf (x ∷ s) = omega (arith, length-wordsOf s)
-
--- ---- a number's digits, the last first
-
-set-front : (l : List ℕ) (i v : ℕ) → i < length l → drop i (set l i v) ≡ v ∷ drop (suc i) l
-set-front l i v h =
-    drop-cons (set l i v) i 0 (rw (length-set l i v) h) ∙ rw (getD-set-same l i v 0 h, drop-set-lt (suc i) l i v (omega arith))
-
-module _ (n rest d : ℕ) (bytes : List ℕ) (e : d ≡ 48 + rest % 10) where
-  pub first-digit : (f : ℕ) → decimalOf n ≡ spelledOn f rest (drop f bytes) → 0 < f → f ≤ 20 → length bytes ≡ 20 → rest < 10
-      → decimalOf n ≡ drop (f - 1) (set bytes (f - 1) d)
-  unfolding spelledOn
-  first-digit zero v h k l j = let z : ⊥ = omega arith in absurd z
-  first-digit (suc f) v h k l j =
-      let q : suc f - 1 ≡ f = omega arith in
-      rw (q, set-front bytes f d (omega arith), e) (v ∙ simp (lt-ltb rest 10 j))
-
-  pub one-digit : (f : ℕ) → decimalOf n ≡ spelledOn f rest (drop f bytes) → 0 < f → f ≤ 20 → length bytes ≡ 20 → 10 ≤ rest
-      → decimalOf n ≡ spelledOn (f - 1) (rest / 10) (drop (f - 1) (set bytes (f - 1) d))
-  unfolding spelledOn
-  one-digit zero v h k l j = let z : ⊥ = omega arith in absurd z
-  one-digit (suc f) v h k l j =
-      let q : suc f - 1 ≡ f = omega arith in
-      rw (q, set-front bytes f d (omega arith), e) (v ∙ simp (le-ltb rest 10 j))
-
-pub spelled : (n rest f : ℕ) (bytes : List ℕ) → decimalOf n ≡ spelledOn f rest (drop f bytes) → f ≤ 0 → decimalOf n ≡ drop f bytes
-unfolding spelledOn
-spelled n rest zero bytes v h = v
-spelled n rest (suc f) bytes v h = let z : ⊥ = omega arith in absurd z
-
-pub no-digit : (n : ℕ) (bytes : List ℕ) → length bytes ≡ 20 → decimalOf n ≡ spelledOn 20 n (drop 20 bytes)
-unfolding decimalOf
-no-digit n bytes h = rw (drop-of-length-le bytes {i = 20} (omega arith))
 
 -- ---- where there is nothing more to put, or no room
 

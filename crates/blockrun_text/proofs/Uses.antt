@@ -1,21 +1,21 @@
 -- What a caller needs of the definitions: places inside the buffer, lengths, and what a block's line is.
 -- Assumes nothing.
-use mathlib.Core.Path.{_≡_}
-use mathlib.Core.Bool.{true, not}
-use mathlib.Core.List.{List, [], _∷_}
+use mathlib.Core.Path.{_≡_, refl, ap}
+use mathlib.Core.Bool.{true, false, not}
+use mathlib.Core.List.{List, [], _∷_, _++_}
 use Prim.Native.Nat.{ℕ, zero, suc, min, _+_, _-_, _/_, _%_, _≤_, _<_}
 use native.Mathlib.Omega.{arith}
 use borrow.Author.Tests.{ltb-false, eqb-true, not-false}
 use lib.Dec.{eqb, ltb}
-use lib.ListN.{length, take, drop, getD}
+use lib.ListN.{length, take, drop, getD, length-drop}
 use Rattle.words.specs.declared.control.Quality.{Quality}
 use Rattle.words.specs.declared.control.Quality.the-variants.{BestEffort, Verified}
-use Rattle.blockrun_text.specs.Splitting.{endOf}
-use Rattle.blockrun_text.specs.Forms.{startsWith, isText, lineOf, busOf, sendOf, linkOf, fiveOf, resetText, frameText, takeText, doneText, lostText, absentText, verifiedText, bestText, linkText}
+use Rattle.blockrun_text.specs.Splitting.{firstNewline, endOf}
+use Rattle.blockrun_text.specs.Forms.{startsWith, isText, lineOf, busOf, sendOf, linkOf, fiveOf, resetText, frameText, frameLine, takeText, doneText, lostText, absentText, verifiedText, bestText, linkText}
 use Rattle.blockrun_text.specs.Hex.{allDigits, bytesOf, blockOf, blockSizeOf}
 use Rattle.blockrun_text.specs.Printing.{spelledOn, decimalOf}
 use Rattle.blockrun_text.specs.declared.number.Number.{Number}
-use Rattle.blockrun_text.specs.declared.parse.Line.the-variants.{Send, Other}
+use Rattle.blockrun_text.specs.declared.parse.Line.the-variants.{Frame, Send, Other}
 use Rattle.blockrun_text.proofs.Reading.{by, clash, digit-small}
 
 -- ---- a line's end
@@ -27,6 +27,35 @@ end-inside buffer from = omega arith
 pub end-behind : (buffer : List ℕ) (from : ℕ) → from ≤ length buffer → from ≤ endOf buffer from
 unfolding endOf
 end-behind buffer from h = omega arith
+
+-- ---- a whole `frame`
+
+starts-split : (text line : List ℕ) → startsWith text line ≡ true → line ≡ text ++ drop (length text) line
+unfolding startsWith
+starts-split [] line h = refl
+starts-split (x ∷ text) [] h = cc
+starts-split (x ∷ text) (y ∷ line) h =
+    by (eqb y x)
+    (λ e. rw (eqb-true y x e) (ap (λ (l : List ℕ). x ∷ l) (starts-split text line (simp e at h))))
+    (λ e. let z : false ≡ true = simp e at h in cc)
+
+-- it has six bytes, ends where its newline is, and is the line of that form
+module _ (buffer : List ℕ) (from : ℕ) (h : startsWith frameLine (drop from buffer) ≡ true) where
+  split : drop from buffer ≡ frameLine ++ drop 6 (drop from buffer)
+  split = starts-split frameLine (drop from buffer) h
+
+  pub frame-inside : from + 6 ≤ length buffer
+  frame-inside = omega (arith, length-drop from buffer, ap length split)
+
+  pub frame-end : endOf buffer from ≡ from + 5
+  unfolding endOf firstNewline
+  frame-end =
+      let e : firstNewline (drop from buffer) ≡ 5 = ap firstNewline split in
+      omega (arith, frame-inside)
+
+  pub frame-read : lineOf (take 5 (drop from buffer)) ≡ Frame
+  unfolding lineOf isText startsWith
+  frame-read = ap (λ (l : List ℕ). lineOf (take 5 l)) split
 
 -- ---- a number's length
 

@@ -29,6 +29,10 @@ resetText = 114 ∷ 101 ∷ 115 ∷ 101 ∷ 116 ∷ []
 abbrev pub frameText : List ℕ
 frameText = 102 ∷ 114 ∷ 97 ∷ 109 ∷ 101 ∷ []
 
+-- "frame" and its newline
+abbrev pub frameLine : List ℕ
+frameLine = 102 ∷ 114 ∷ 97 ∷ 109 ∷ 101 ∷ 10 ∷ []
+
 -- "take"
 abbrev pub takeText : List ℕ
 takeText = 116 ∷ 97 ∷ 107 ∷ 101 ∷ []

@@ -5,7 +5,7 @@ use stores::sizes::least;
 ghost use mathlib.Core.Path.{_≡_};
 ghost use mathlib.Core.List.{[], _∷_};
 ghost use Prim.Native.Nat.{_+_, _*_, _≤_, _%_};
-ghost use lib.ListN.{length, drop, take};
+ghost use lib.ListN.{length, set, take};
 ghost use lib.Seq.{sets};
 ghost use Rattle.blockrun_text.specs.Printing.{behind, hexOf, wordOf, wordsOf, decimalOf};
 
@@ -34,10 +34,23 @@ pub fn put_text(out: &mut [u8], at: usize, text: &[u8]) -> usize
     at + n
 }
 
-// Digits stand at the end of twenty bytes, which every u64 fits in.
-struct Digits {
-    bytes: [u8; 20],
-    first: usize,
+// Four bytes: with room for all of them they are stored at once.
+pub fn put_four(out: &mut [u8], at: usize, a: u8, b: u8, c: u8, d: u8) -> usize
+    ensures { λ r. ⌜ (r ≡ behind (length (now (out .entry))) at 4)
+        × (now (out .exit) ≡ sets (now (out .entry)) at (a ∷ b ∷ c ∷ d ∷ [])) ⌝ }
+{
+    if out.len() <= at {
+        return out.len();
+    }
+    if out.len() - at < 4 {
+        let bytes = [a, b, c, d];
+        return put_text(out, at, &bytes);
+    }
+    out[at] = a;
+    out[at + 1] = b;
+    out[at + 2] = c;
+    out[at + 3] = d;
+    at + 4
 }
 
 fn decimal_digit(n: u64) -> u8
@@ -46,21 +59,45 @@ fn decimal_digit(n: u64) -> u8
     48 + (n % 10) as u8
 }
 
-fn spell(n: u64) -> Digits
-    ensures { λ r. ⌜ (r .first ≤ 20) × (length (r .bytes) ≡ 20) × (decimalOf n ≡ drop (r .first) (r .bytes)) ⌝ }
+// How many digits a number has: `bound` is the least number with more than k.
+fn digit_count(n: u64) -> usize
+    ensures { λ r. ⌜ r ≡ length (decimalOf n) ⌝ }
 {
-    let mut bytes = [0u8; 20];
-    let mut first: usize = 20;
-    let mut rest = n;
-    while 0 < first {
-        first -= 1;
-        bytes[first] = decimal_digit(rest);
-        if rest < 10 {
-            return Digits { bytes, first };
+    let mut bound: u64 = 10;
+    let mut k: usize = 1;
+    while k < 19 {
+        if n < bound {
+            return k;
         }
+        bound = bound * 10;
+        k += 1;
+    }
+    if n < bound { 19 } else { 20 }
+}
+
+// The byte in place i behind `at`, where that is inside.
+fn put_byte(out: &mut [u8], at: usize, i: usize, byte: u8)
+    requires { ⌜ at ≤ length (now out) ⌝ }
+    ensures { λ _. ⌜ now (out .exit) ≡ set (now (out .entry)) (at + i) byte ⌝ }
+{
+    if out.len() - at <= i {
+        return;
+    }
+    out[at + i] = byte;
+}
+
+// The k digits of a number, the last one first.
+fn put_digits(out: &mut [u8], at: usize, k: usize, n: u64)
+    requires { ⌜ (at ≤ length (now out)) × (k ≡ length (decimalOf n)) ⌝ }
+    ensures { λ _. ⌜ now (out .exit) ≡ sets (now (out .entry)) at (decimalOf n) ⌝ }
+{
+    let mut i = k;
+    let mut rest = n;
+    while 0 < i {
+        i -= 1;
+        put_byte(out, at, i, decimal_digit(rest));
         rest = rest / 10;
     }
-    Digits { bytes, first }
 }
 
 // A number in decimal, with no leading zero.
@@ -68,10 +105,13 @@ pub fn put_decimal(out: &mut [u8], at: usize, n: u64) -> usize
     ensures { λ r. ⌜ (r ≡ behind (length (now (out .entry))) at (length (decimalOf n)))
         × (now (out .exit) ≡ sets (now (out .entry)) at (decimalOf n)) ⌝ }
 {
-    let spelled = spell(n);
-    let bytes = spelled.bytes;
-    let first = spelled.first;
-    put_text(out, at, &bytes[first..20])
+    if out.len() <= at {
+        return out.len();
+    }
+    let room = out.len() - at;
+    let k = digit_count(n);
+    put_digits(out, at, k, n);
+    at + least(k, room)
 }
 
 fn put_hex_byte(out: &mut [u8], at: usize, byte: u8) -> usize
