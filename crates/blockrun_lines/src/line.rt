@@ -5,6 +5,7 @@ use crate::answer::bus_line;
 use crate::answer::send_line;
 use crate::answer::stepped;
 use crate::answer::take_line;
+use crate::print::put_answer;
 use crate::print::put_no;
 use blockrun_text::parse::Line;
 use blockrun_text::parse::read_line;
@@ -14,8 +15,9 @@ ghost use Prim.Native.Nat.{_≤_};
 ghost use lib.ListN.{length};
 ghost use lib.Seq.{sets};
 ghost use Rattle.blockrun_text.specs.Forms.{lineOf};
-ghost use Rattle.blockrun_lines.specs.Lines.{noText};
-ghost use Rattle.blockrun_lines.specs.Answers.{answered};
+ghost use Rattle.blockrun_lines.specs.Lines.{answerText, noText};
+ghost use Rattle.blockrun_lines.specs.Answers.{answered, steppedOf};
+ghost use Rattle.dist_pair.specs.Events as Events;
 ghost use Rattle.blockrun_lines.specs.Answering.{lent, linePair, lineText, lineStore, linePlaces, lineHand, lineRoom};
 
 // A line of another form does nothing.
@@ -26,6 +28,19 @@ pub fn other_line(p: Pair, number: u64, out: &mut [u8], at: usize) -> Answered
 {
     let next = put_no(out, at, number, 0);
     Answered { pair: p, at: next }
+}
+
+// `frame`: here and not by way of `stepped`, so that the link stays where it is while its number is put.
+pub fn frame_line(p: Pair, number: u64, out: &mut [u8], at: usize) -> Answered
+    ensures result { λ r. ⌜ r ≡ steppedOf (Events.frameOf p) number (length (now (out .entry))) at ⌝ }
+    ensures bytes { λ r. ⌜ ((r .at ≤ length (now (out .exit))) × (length (now (out .exit)) ≡ length (now (out .entry))))
+        × (now (out .exit) ≡ sets (now (out .entry)) at (answerText number (Events.frameOf p .answer))) ⌝ }
+{
+    let s = dist_pair::events::frame(p);
+    let pair = s.pair;
+    let answer = s.answer;
+    let next = put_answer(out, at, number, answer);
+    Answered { pair, at: next }
 }
 
 // The form is tested before the link.
@@ -73,7 +88,7 @@ pub fn answer_line(
             stepped(s, number, out, at)
         }
         Line::Reset => stepped(dist_pair::events::reset(p), number, out, at),
-        Line::Frame => stepped(dist_pair::events::frame(p), number, out, at),
+        Line::Frame => frame_line(p, number, out, at),
         Line::Take => take_line(p, number, hand, room, out, at),
         Line::Send {
             quality,

@@ -1,5 +1,6 @@
 // The lines that blockrun writes, each put into a lent buffer from byte `at` on.
 use blockrun_text::print::put_decimal;
+use blockrun_text::print::put_four;
 use blockrun_text::print::put_hex_bytes;
 use blockrun_text::print::put_text;
 use blockrun_text::print::put_words;
@@ -20,20 +21,21 @@ fn put_start(out: &mut [u8], at: usize, number: u64) -> usize
     put_text(out, next, b"\t")
 }
 
+// Most lines are answered by these two: what follows the number is put four bytes at once.
 pub fn put_ok(out: &mut [u8], at: usize, number: u64) -> usize
     ensures { λ r. ⌜ (r ≡ behind (length (now (out .entry))) at (length (okText number)))
         × (now (out .exit) ≡ sets (now (out .entry)) at (okText number)) ⌝ }
 {
-    let next = put_start(out, at, number);
-    put_text(out, next, b"ok\n")
+    let next = put_decimal(out, at, number);
+    put_four(out, next, b'\t', b'o', b'k', b'\n')
 }
 
 pub fn put_no(out: &mut [u8], at: usize, number: u64, refusal: u8) -> usize
     ensures { λ r. ⌜ (r ≡ behind (length (now (out .entry))) at (length (noText number refusal)))
         × (now (out .exit) ≡ sets (now (out .entry)) at (noText number refusal)) ⌝ }
 {
-    let next = put_start(out, at, number);
-    let behind_no = put_text(out, next, b"no\t");
+    let next = put_decimal(out, at, number);
+    let behind_no = put_four(out, next, b'\t', b'n', b'o', b'\t');
     let behind_number = put_decimal(out, behind_no, refusal as u64);
     put_text(out, behind_number, b"\n")
 }

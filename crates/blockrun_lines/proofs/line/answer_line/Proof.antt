@@ -38,13 +38,9 @@ returns-3 c =
 
 returns-4 : tie.Need-returns-4
 returns-4 c =
-    let a = c .before .before .before .before .before .before .before .before .before .before .before .before .before .before .args in
-    let l = sym (c .before .before .before .before .before .before .before .read-line .ensures) ∙ c .before .before .before .before .before .enum-told3 .given .1 in
-    let s = c .before .before .stepped3 in
-    let v = c .before .before .before .before .frame .result in
-    let ev = c .before .before .before .before .frame .ensures in
-    let room = inside (a .out .now) (s .last .1 .1 .0) (answerText (a .number) (v .answer)) (a .at) (v .pair) (s .result) (s .ensures .0) (s .ensures .1) in
-    simp l (rw (ev) at (s .ensures .0), (room, (refl, (refl, (refl, (refl, rw (ev) at (s .ensures .1)))))))
+    let l = sym (c .before .before .before .before .before .before .read-line .ensures) ∙ c .before .before .before .before .enum-told3 .given .1 in
+    let o = c .before .before .frame-line .ensures in
+    simp l (o .0, (o .1 .0, (refl, (refl, (refl, (refl, o .1 .1))))))
 
 returns-5 : tie.Need-returns-5
 unfolding takeLine
@@ -61,7 +57,7 @@ returns-6 : tie.Need-returns-6
 returns-6 c =
     let a = c .before .before .before .before .before .before .before .before .before .before .before .before .before .before .before .before .before .before .before .before .before .args in
     let l = sym (c .before .before .before .before .before .before .before .before .before .before .before .before .before .before .read-line .ensures) ∙ c .before .before .before .before .before .before .before .before .before .before .before .before .read2 .given .1 in
-    let s = c .before .before .stepped4 in
+    let s = c .before .before .stepped3 in
     let v = c .before .before .before .before .before .before .before .before .send-line .result in
     let ev = c .before .before .before .before .before .before .before .before .send-line .ensures in
     let room = inside (a .out .now) (s .last .1 .1 .0) (answerText (a .number) (v .answer)) (a .at) (v .pair) (s .result) (s .ensures .0) (s .ensures .1) in
@@ -111,7 +107,6 @@ answer-line-spec =
     (λ c κs. search needs)
     (λ c κs. search needs)
     (λ c. search needs)
-    (λ c κs. search needs)
     (λ c κs. search needs)
     (λ c. search needs)
     (λ c κs. search needs)
