@@ -102,6 +102,20 @@ fn one_line(
     )
 }
 
+// A line that is a whole `frame`.
+fn one_frame(r: Run, out: &mut [u8]) -> Run
+    requires { ⌜ r .at ≤ length (now out) ⌝ }
+    ensures { λ s. ⌜ (s .at ≤ length (now (out .exit))) × (length (now (out .exit)) ≡ length (now (out .entry))) ⌝ }
+{
+    let number = std::num::wrapping_add_u64(r.number, 1);
+    let pair = r.pair;
+    let at = with_room(out, r.at);
+    answered(
+        blockrun_lines::line::frame_line(pair, number, out, at),
+        number,
+    )
+}
+
 fn answered(a: Answered, number: u64) -> Run
     ensures { λ r. ⌜ r .at ≡ a .at ⌝ }
 {
@@ -137,6 +151,18 @@ fn read_behind(buffer: &mut [u8], have: usize) -> usize
     io::count(got, part)
 }
 
+// The lines end, for now, at `have`.
+fn stopped(run: Run, have: usize, long: bool, ended: bool) -> Held
+    ensures { λ r. ⌜ (r .run .at ≡ run .at) × (r .have ≡ have) ⌝ }
+{
+    Held {
+        run,
+        have,
+        long,
+        ended,
+    }
+}
+
 // Each whole line of `lines` is answered; `have` is where the rest begins.
 fn all_lines(
     h: Held,
@@ -154,34 +180,26 @@ fn all_lines(
     let mut long = h.long;
     let mut from: usize = 0;
     while from < lines.len() {
+        if !long {
+            if blockrun_text::split::frame_at(lines, from) {
+                run = one_frame(run, out);
+                from += 6;
+                continue;
+            }
+        }
         let end = blockrun_text::split::line_end(lines, from);
         if lines.len() <= end {
-            return Held {
-                run,
-                have: from,
-                long,
-                ended: false,
-            };
+            return stopped(run, from, long, false);
         }
         if end < from {
-            return Held {
-                run,
-                have: from,
-                long,
-                ended: true,
-            };
+            return stopped(run, from, long, true);
         }
         let next = end + 1;
         run = one_line(run, long, &lines[from..end], store, places, hand, room, out);
         long = false;
         from = next;
     }
-    Held {
-        run,
-        have: from,
-        long,
-        ended: false,
-    }
+    stopped(run, from, long, false)
 }
 
 // What waits is written, and the run goes on with an empty output buffer.

@@ -24,9 +24,10 @@ loop-again c =
     let d = c .before .before .before .decimal-digit in
     let t = c .before .before .before .before .before .before in
     let a = t .before .before .args in
-    let i = t .loop .i in
-    (ap length b ∙ length-set (t .loop .out) (a .at + (i - 1)) (d .result) ∙ t .loop .inv .0,
-    put-last (t .loop .out) _ (a .at) i (t .loop .rest) (d .result) b (d .ensures) (omega arith) ∙ t .loop .inv .1)
+    let i = t .loop .i in (
+      ap length b ∙ length-set (t .loop .out) (a .at + (i - 1)) (d .result) ∙ t .loop .inv .0,
+      put-last (t .loop .out) _ (a .at) i (t .loop .rest) (d .result) b (d .ensures) (omega arith) ∙ t .loop .inv .1,
+    )
 
 returns : tie.Need-returns Inv-loop μ-loop
 returns c =
