@@ -67,14 +67,6 @@ fn with_room(out: &[u8], at: usize) -> usize
     flushed(out, at)
 }
 
-// Whether a line is read at all: whole, and not too long.
-fn is_read(long: bool, len: usize) -> bool {
-    if long {
-        return false;
-    }
-    len <= 16384
-}
-
 // One line, whole or, where `long`, only its end.
 fn one_line(
     r: Run,
@@ -92,7 +84,13 @@ fn one_line(
     let number = std::num::wrapping_add_u64(r.number, 1);
     let pair = r.pair;
     let at = with_room(out, r.at);
-    if !is_read(long, line.len()) {
+    if long {
+        return answered(
+            blockrun_lines::line::other_line(pair, number, out, at),
+            number,
+        );
+    }
+    if 16384 < line.len() {
         return answered(
             blockrun_lines::line::other_line(pair, number, out, at),
             number,
