@@ -30,7 +30,7 @@ pub fn other_line(p: Pair, number: u64, out: &mut [u8], at: usize) -> Answered
     Answered { pair: p, at: next }
 }
 
-// `frame`: here and not by way of `stepped`, so that the link stays where it is while its number is put.
+// `frame`: not by way of `stepped`, so that the link is not moved while the answer is put.
 pub fn frame_line(p: Pair, number: u64, out: &mut [u8], at: usize) -> Answered
     ensures result { λ r. ⌜ r ≡ steppedOf (Events.frameOf p) number (length (now (out .entry))) at ⌝ }
     ensures bytes { λ r. ⌜ ((r .at ≤ length (now (out .exit))) × (length (now (out .exit)) ≡ length (now (out .entry))))

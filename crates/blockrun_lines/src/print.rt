@@ -21,7 +21,7 @@ fn put_start(out: &mut [u8], at: usize, number: u64) -> usize
     put_text(out, next, b"\t")
 }
 
-// Most lines are answered by these two: what follows the number is put four bytes at once.
+// What follows the number is put four bytes at once.
 pub fn put_ok(out: &mut [u8], at: usize, number: u64) -> usize
     ensures { λ r. ⌜ (r ≡ behind (length (now (out .entry))) at (length (okText number)))
         × (now (out .exit) ≡ sets (now (out .entry)) at (okText number)) ⌝ }

@@ -2,17 +2,17 @@
 -- Assumes nothing.
 use mathlib.Core.Path.{_≡_, refl, sym, ap, _∙_}
 use mathlib.Core.List.{List, [], _∷_, _++_}
-use Prim.Native.Nat.{ℕ, zero, suc, min, _+_, _-_, _*_, _/_, _%_, _≤_, _<_}
+use Prim.Native.Nat.{ℕ, suc, min, _+_, _-_, _*_, _≤_, _<_}
 use native.Mathlib.Numerals.{add-one}
 use native.Mathlib.Nat.{add-zero, add-suc, suc-add}
 use native.Mathlib.Omega.{arith}
-use borrow.Author.Tests.{lt-ltb, le-ltb, leb-true, leb-false}
+use borrow.Author.Tests.{leb-true, leb-false}
 use lib.Dec.{leb}
 use mathlib.Core.Bool.{Bool, true, false}
-use lib.ListN.{length, take, drop, getD, set, length-set, drop-of-length-le}
-use lib.Seq.{drop-cons, sets, length-sets, getD-set-same, drop-set-lt}
+use lib.ListN.{length, take, drop, getD, set, drop-of-length-le}
+use lib.Seq.{drop-cons, sets, length-sets}
 use Rattle.stores.proofs.Runs.{take-least, sets-cut, sets-out}
-use Rattle.blockrun_text.specs.Printing.{hexOf, wordsOf, spelledOn, decimalOf}
+use Rattle.blockrun_text.specs.Printing.{hexOf, wordsOf}
 
 -- ---- a text, byte by byte
 
@@ -27,7 +27,7 @@ put-least l text a n e =
 
 -- ---- texts that follow on each other
 
-pub sets-append : (u v l : List ℕ) (a : ℕ) → sets (sets l a u) (a + length u) v ≡ sets l a (u ++ v)
+sets-append : (u v l : List ℕ) (a : ℕ) → sets (sets l a u) (a + length u) v ≡ sets l a (u ++ v)
 sets-append [] v l a = rw (add-zero a)
 sets-append (x ∷ u) v l a = rw (add-suc a (length u), ← suc-add a (length u)) (sets-append u v (set l a x) (suc a))
 

@@ -19,7 +19,7 @@ pub fn line_end(buffer: &[u8], from: usize) -> usize
     buffer.len()
 }
 
-// Whether the line at `from` is a whole `frame`, which a run has most of: seen without a search for its end.
+// Whether the line at `from` is a whole `frame`, seen without a search for its end: an idle link has no other lines.
 pub fn frame_at(buffer: &[u8], from: usize) -> bool
     ensures { λ r. ⌜ r ≡ startsWith frameLine (drop from (now (buffer .entry))) ⌝ }
 {
