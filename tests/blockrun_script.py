@@ -97,6 +97,14 @@ class Case:
         self.idle()
         self.take(None)
 
+    def short(self, quality, count, letter, age=2):
+        """A one-byte transfer, taken and confirmed at that age, in few lines."""
+        data = letter.encode()
+        self.out(quality, data, count)
+        self.take(data)
+        self.frame(age)
+        self.bus("d", "ok T27 confirmed")
+
 
 def written(made):
     text = b"\n".join(made.lines) + made.ending
