@@ -77,8 +77,8 @@ def windows(c):
         if window not in (2, 3, 4, 9, 16):
             continue
         c.reset()
-        c.short("v", 1, "a")
-        c.short("b", 2, "b")
+        c.short("v", 1, b"a")
+        c.short("b", 2, b"b")
         c.out("v", b"three", 3)
         c.frame(2)
         for age in range(2, window):
