@@ -1,8 +1,8 @@
 """Stored cases of blockrun: counts that come round, the transfers spent, the tick past 65535.
 
-The answers come from the reference, which is written from document 01, and from the answers by hand beside the lines. Both
-follow the count step by step, so at some lines (`key`) number, line and answer were worked out by arithmetic instead; how is said
-beside them. Where they do not hold nothing is written.
+The answers are the reference's, which is written from document 01, and answers by hand stand beside the lines. Both follow
+the count step by step; so at some lines (`key`) the number, the line and the answer were worked out by arithmetic instead,
+which is said there. Where one of them does not hold, nothing is written.
 """
 
 from blockrun_script import RESET, block
@@ -28,13 +28,14 @@ def three_hundred(c):
     """300 transfers that are confirmed, then 300 that are not.
 
     The 300 confirmed: line 1 is the note, 2 the link, 3 to 7 the Reset. Each transfer has seven lines (send, data, descriptor,
-    take, two frames, read), so the descriptor of the t-th is line 7 + 7 (t - 1) + 3 = 7 t + 3 and its read line 7 t + 7. Its count is
-    t up to 255, then t - 255. It has 1 + t % 3 bytes, so SIZE is that, and Verified Length where t is odd: 8B before the count, else 0B.
+    take, two frames, read), so the descriptor of the t-th is line 7 + 7 (t - 1) + 3 = 7 t + 3 and its read is line 7 t + 7. Its
+    count is t up to 255, then t - 255. SIZE is 1 + t % 3. Where t is odd it is Verified: 8B before the count, else 0B.
 
-    The 300 not confirmed: line 7 * 300 + 8 = 2108 is a note. Each has six lines, the descriptor of the u-th is line
-    2108 + 6 (u - 1) + 3 = 6 u + 2105. It is the (300 + u)-th since the Reset: count u + 45 up to u = 210, which is 255, then u - 210.
-    The 254th ends at line 2108 + 6 * 254 = 3632. None was confirmed since the 300th, so line 3633 is refusal 5.
-    Lines 3638 to 3642 are a Reset; the last 46 have counts 1 to 46, the v-th's descriptor is line 3642 + 6 (v - 1) + 3 = 6 v + 3639.
+    The 300 not confirmed: line 7 * 300 + 8 = 2108 is a note. Each has six lines (no take), so the descriptor of the u-th is
+    line 2108 + 6 (u - 1) + 3 = 6 u + 2105. It is the (300 + u)-th since the Reset: its count is u + 45 up to u = 210, which has
+    255, then u - 210. The 254th ends at line 2108 + 6 * 254 = 3632. None was confirmed since the 300th, so line 3633 is
+    refused by 5, and it stays so at 3634 and, after a look at the bus and a take, at 3637. Lines 3638 to 3642 are a Reset.
+    The last 46 have counts 1 to 46; the descriptor of the v-th is line 3642 + 6 (v - 1) + 3 = 6 v + 3639.
     """
     c.link(8, 0, 11, 1024, 2, note="300 confirmed, the count past 255")
     c.reset()
@@ -161,15 +162,17 @@ def wrap(c):
 
 
 def tick(c):
-    """The tick passes 65535 twice, with a transfer waiting for its confirmation, and with a Reset waiting; the window is 4 frames.
+    """The tick passes 65535 twice: first a transfer waits for its confirmation, then a Reset. The window is 4 frames.
 
-    Line 2 is the link, at tick 0; lines 3 to 7 are a Reset with two frames, so line 7 + k is the frame of tick 2 + k. Tick 65533 comes
-    at line 65538; lines 65539 to 65541 are a transfer, whose descriptor is told at that tick. Reads at ages 2, 3 and 4, at the ticks
-    65535, 0 and 1, are lines 65545, 65547 and 65551. The first two show the Reset as before and do not end the transfer, since age 3 is
-    below 4; line 65550 takes the block, so the third one confirms it.
-    Line 65549 was the frame of tick 1, so line 65552 + k is the frame of tick 1 + k: tick 65533 again at line 131084. Lines 131085 and
-    131086 are a Reset and its descriptor. Its reads are lines 131090, 131092 and 131095, at the same ticks and ages, all lost: after age 3
-    it goes on, after age 4 it is not accepted, so line 131097 finds nothing asked for and line 131098 is refused by 2.
+    Line 2 is the link, at tick 0; lines 3 to 7 are a Reset with two frames, so line 7 + k is the frame of tick 2 + k. Tick 65533
+    comes at line 65538. Lines 65539 to 65541 are a transfer, whose descriptor is told at that tick. Its reads at ages 2, 3
+    and 4, at the ticks 65535, 0 and 1, are lines 65545, 65547 and 65551. The first two show the Reset as before and do not end
+    the transfer, since age 3 is below 4; line 65550 takes the block, so the third one confirms it.
+
+    Line 65549 is the frame of tick 1, and line 65552 + k that of tick 1 + k, so tick 65533 comes again at line 131084. Lines
+    131085 and 131086 are a Reset and its descriptor. Its reads, at the same ticks and ages, are lines 131090, 131092 and 131095,
+    all lost: at age 3 it goes on, at age 4 it is not accepted. So line 131097 finds nothing asked for, and line 131098 is
+    refused by 2.
     """
     c.packed = True
     c.link(6, 0, 11, 1024, 4, note="the tick passes 65535: first a transfer waits, the next time a Reset")
