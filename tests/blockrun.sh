@@ -1,7 +1,7 @@
 #!/bin/bash
 # The program blockrun is held to the reference tests/blockrun.py, which was written from document 01 alone.
 # First the stored tests, tests/blockrun/NAME.in and .out, or with .gz behind (made by tests/blockrun_cases.py, and looked at for
-# being what it makes now; it also holds the lines worked out on paper to the reference). Then what is made anew each time: inputs
+# being what it makes now; it also holds the reference to lines worked out by arithmetic). Then what is made anew each time: inputs
 # that end in odd ways, long scenarios, and two seeds of random lines.
 # BLOCKRUN is the command that runs the program, else target/bin/blockrun is run as ./run does, without building it.
 # SEEDS and RANDOM_LINES (how many) say which random lines are tried.

@@ -107,7 +107,7 @@ class Case:
         self.bus("d", "ok T27 confirmed")
 
     def key(self, number, line, answer):
-        """A line of the file that was worked out with its number on paper, apart from the calls that write the lines."""
+        """A line of the file worked out by arithmetic, with its number, apart from the calls that write the lines."""
         self.keys.append((number, line, answer))
 
 
@@ -124,8 +124,8 @@ def written(made):
             if answer != wanted:
                 sys.exit("%s line %d, %r:\n  by hand  %s\n  answered %s" % (made.name, at + 1, line[:80], wanted[:200], answer[:200]))
     for number, line, answer in made.keys:
-        paper = ("%s\n%d %s" % (line, number, answer)).replace(" ", "\t")
+        wanted = ("%s\n%d %s" % (line, number, answer)).replace(" ", "\t")
         found = "%s\n%s" % (made.lines[number - 1].decode(), got[number - 1])
-        if found != paper:
-            sys.exit("%s line %d:\n  on paper %r\n  found    %r" % (made.name, number, paper, found))
+        if found != wanted:
+            sys.exit("%s line %d:\n  wanted %r\n  found  %r" % (made.name, number, wanted, found))
     return text, out, by_hand
