@@ -1,0 +1,5 @@
+pub mod Parts
+pub mod Model
+pub mod Circle
+pub mod Ghost
+pub mod Invariant
