@@ -1,4 +1,5 @@
 pub mod Parts
+pub mod Modes
 pub mod Model
 pub mod Circle
 pub mod Ghost
