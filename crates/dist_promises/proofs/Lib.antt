@@ -4,3 +4,5 @@ pub mod Model
 pub mod Circle
 pub mod Ghost
 pub mod Invariant
+pub mod Real
+pub mod SameFrame
