@@ -241,6 +241,36 @@ PhaseIs link h sendReset a c cost = (a ≡ false) × NotOpen (h .fate)
 PhaseIs link h awaitReset a c cost = (a ≡ false) × NotOpen (h .fate)
 PhaseIs link h readingReset a c cost = (a ≡ false) × NotOpen (h .fate)
 
+-- with another lent hand, other sizes in 27T and in what was caught
+abbrev pub withHand : List ℕ → ℕ → ℕ → Hidden → Hidden
+withHand hand shown kept h =
+    record {
+      store = h .store;
+      hand = hand;
+      size = h .size;
+      quality = h .quality;
+      fate = h .fate;
+      found = h .found;
+      shown = shown;
+      caught = kept;
+    }
+
+-- which the phase does not ask for
+pub phase-kept : (p : Phase) (link : Link) (h : Hidden) (hand : List ℕ) (shown kept : ℕ) (a : Bool) (c cost : ℕ)
+    → PhaseIs link h p a c cost → PhaseIs link (withHand hand shown kept h) p a c cost
+phase-kept idle link h hand shown kept a n cost i = i
+phase-kept (sendData b j) link h hand shown kept a n cost i = i
+phase-kept (sendDesc v k) link h hand shown kept a n cost i = i
+phase-kept await link h hand shown kept a n cost i = i
+phase-kept reading link h hand shown kept a n cost i = i
+phase-kept (resetFirst (mData j d)) link h hand shown kept a n cost i = i
+phase-kept (resetFirst (mDesc v c k)) link h hand shown kept a n cost i = i
+phase-kept (resetFirst mReset) link h hand shown kept a n cost i = i
+phase-kept (resetFirst mRead) link h hand shown kept a n cost i = i
+phase-kept sendReset link h hand shown kept a n cost i = i
+phase-kept awaitReset link h hand shown kept a n cost i = i
+phase-kept readingReset link h hand shown kept a n cost i = i
+
 -- a configured link with the message store that was lent for it, and what its parts obey
 pub record Ground (link : Link) (lent : List ℕ) : Type 1 where
   pub configured : configuredOf link ≡ true

@@ -31,10 +31,10 @@ use Rattle.dist_promises.proofs.Model.{Phase, idle, sendData, sendDesc,
 use Rattle.dist_promises.proofs.Model.{mData, mDesc, mReset, mRead, Tx, Meter, State, at, framed, asksRead, firstAge, age, ticked, isOpen, cut, askedBy}
 use Rattle.dist_promises.proofs.Real.{Hidden, phaseOf, sizeIn, qualityIn, flightOf, terminalOf, controllerOf, real, PhaseIs, Ground, Facts, Stands, moves}
 
-abbrev tx : Bool → ℕ → ℕ → Phase → Tx
+abbrev pub tx : Bool → ℕ → ℕ → Phase → Tx
 tx a n s p = record { accepted = a; count = n; spent = s; phase = p }
 
-abbrev meter : ℕ → ℕ → ℕ → Meter
+abbrev pub meter : ℕ → ℕ → ℕ → Meter
 meter now since cost = record { now = now; since = since; cost = cost }
 
 -- x: a read is due
@@ -67,7 +67,7 @@ asks-alike awaitReset false link h a n s now since cost = refl
 asks-alike readingReset true link h a n s now since cost = refl
 asks-alike readingReset false link h a n s now since cost = refl
 
-frame-controller : (link : Link) → configuredOf link ≡ true → (h : Hidden) (a : Bool) (n s : ℕ) (p : Phase) (now since cost : ℕ)
+pub frame-controller : (link : Link) → configuredOf link ≡ true → (h : Hidden) (a : Bool) (n s : ℕ) (p : Phase) (now since cost : ℕ)
     → Controller.frameOf (controllerOf link h (tx a n s p) (meter now since cost)) .controller
     ≡ controllerOf link h (tx a n s (framed p (leb firstAge (age (ticked now) since)))) (meter (ticked now) since (asksRead p (leb firstAge (age (ticked now) since)) cost))
 unfolding Controller.frameOf askAgain dueOf nextTick ageOf
@@ -98,7 +98,7 @@ phase-framed readingReset false link h a n cost i = i
 -- ---- a Reset
 
 -- it cuts an open transfer
-abbrev cutHidden : Phase → Hidden → Hidden
+abbrev pub cutHidden : Phase → Hidden → Hidden
 cutHidden p h =
     record {
       store = h .store;
@@ -111,7 +111,7 @@ cutHidden p h =
       caught = h .caught;
     }
 
-cut-alike : (p : Phase) (link : Link) → configuredOf link ≡ true → (h : Hidden) (a : Bool) (n s now since cost : ℕ)
+pub cut-alike : (p : Phase) (link : Link) → configuredOf link ≡ true → (h : Hidden) (a : Bool) (n s now since cost : ℕ)
     → Controller.resetOf (controllerOf link h (tx a n s p) (meter now since cost)) .controller
     ≡ controllerOf link (cutHidden p h) (tx false n s (cut (askedBy p n))) (meter now since cost)
 unfolding Controller.resetOf cutTransfer
