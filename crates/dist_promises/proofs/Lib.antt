@@ -21,3 +21,14 @@ pub mod SafeTold
 pub mod Safe
 pub mod SaysFrame
 pub mod SameTake
+pub mod Finding
+pub mod Sync
+pub mod SyncCalls
+pub mod SyncArrive
+pub mod SyncTold
+pub mod SyncStep
+pub mod Counts
+pub mod Agree
+pub mod Holds
+pub mod Spoke
+pub mod SpokeReset
