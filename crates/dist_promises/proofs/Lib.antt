@@ -32,3 +32,4 @@ pub mod Agree
 pub mod Holds
 pub mod Spoke
 pub mod SpokeReset
+pub mod SameTold
