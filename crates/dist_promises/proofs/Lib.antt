@@ -33,3 +33,6 @@ pub mod Holds
 pub mod Spoke
 pub mod SpokeReset
 pub mod SameTold
+pub mod Sends
+pub mod Lands
+pub mod LandsDescriptor
