@@ -36,3 +36,14 @@ pub mod SameTold
 pub mod Sends
 pub mod Lands
 pub mod LandsDescriptor
+pub mod SameArrive
+pub mod Waiting
+pub mod Live
+pub mod Confirms
+pub mod Tidy
+pub mod LiveReset
+pub mod Accepts
+pub mod Begins
+pub mod Promised
+pub mod Starts
+pub mod Theorem

@@ -131,20 +131,19 @@ cut-alike readingReset link conf h a n s now since cost = rw conf
 phase-cut : (p : Phase) (link : Link) (h : Hidden) (a : Bool) (n cost : ℕ) → PhaseIs link h p a n cost
     → PhaseIs link (cutHidden p h) (cut (askedBy p n)) false n cost
 phase-cut idle link h a n cost i = (refl, i)
-phase-cut (sendData b j) link h a n cost i = 
-    (
-      refl,
-      (
-        tt,
-        record {
-          some = i .range .some;
-          most = i .range .most;
-          within = i .within;
-          gone = i .gone;
-          bytes = ap (λ (d : Block). chunk d j) (sym (i .bytes));
-        },
-      ),
-    )
+phase-cut (sendData b j) link h a n cost i = (
+  refl,
+  (
+    tt,
+    record {
+      some = i .range .some;
+      most = i .range .most;
+      within = i .within;
+      gone = i .gone;
+      bytes = ap (λ (d : Block). chunk d j) (sym (i .bytes));
+    },
+  ),
+)
 phase-cut (sendDesc v k) link h a n cost i = (refl, (tt, (refl, i)))
 phase-cut await link h a n cost i = (refl, tt)
 phase-cut reading link h a n cost i = (refl, (tt, tt))

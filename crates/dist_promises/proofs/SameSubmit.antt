@@ -183,7 +183,7 @@ module _ (link : Link) (lent : List ℕ) (G : Ground link lent) where
 
   agrees : (h : Hidden) (s : State Received) (b : Load) → Facts link lent G h s
       → Agreed (submitAnswerOf (controllerOf link h (s .tx) (s .meter)) (length (b .block)) (length (h .store))) (goes b s)
-          ((s .tx .accepted ≡ true) × ((s .tx .phase ≡ idle) × Reason link (length (b .block)) (s .tx .spent)))
+      ((s .tx .accepted ≡ true) × ((s .tx .phase ≡ idle) × Reason link (length (b .block)) (s .tx .spent)))
       ⊎ Refused (submitAnswerOf (controllerOf link h (s .tx) (s .meter)) (length (b .block)) (length (h .store))) (goes b s)
   agrees h s b f =
       answer-agrees link (G .configured) h (s .meter) (length (b .block)) (length (h .store)) (f .store)
@@ -265,7 +265,7 @@ module _ (link : Link) (lent : List ℕ) (G : Ground link lent) where
       let c = controllerOf link h t (s .meter) in
       let d = startedOf (qualityOf (b .verified)) (length (b .block)) c in
       let quiet = opens-quietly (h .fate) (t .accepted)
-          (subst (λ (p : Phase). PhaseIs link h p (t .accepted) (t .count) (s .meter .cost)) e (f .phase)) (g .reason .0) in
+      (subst (λ (p : Phase). PhaseIs link h p (t .accepted) (t .count) (s .meter .cost)) e (f .phase)) (g .reason .0) in
       rw (g .accepted)
       (news c d (G .configured) (G .configured)
       ∙ ap (λ (p : Phase). newsIn (fateIn p (h .fate)) Fate.Open (t .accepted) (t .accepted)) e

@@ -91,8 +91,8 @@ module _ (link : Link) (lent : List ℕ) (G : Ground link lent) (h : Hidden) (a 
     say-asked p k =
         rw (k .is)
         (news (controllerOf link h (tx a n s p) (meter now since cost))
-            (controllerOf link (withTransfer (k .size) (k .quality) (k .fate) (k .found) h) (next p .tx) (next p .meter))
-            (G .configured) (G .configured)
+        (controllerOf link (withTransfer (k .size) (k .quality) (k .fate) (k .found) h) (next p .tx) (next p .meter))
+        (G .configured) (G .configured)
         ∙ k .says)
 
     say-unasked : (p : Phase) → toldOf (real link h (state p) .pair .controller) (outcomeFor sp) (wordsFor link wide sp) ≡ refuse 18 (real link h (state p) .pair .controller) → answer p ≡ denied

@@ -70,8 +70,7 @@ module _ (link : Link) (h : Hidden) (a : Bool) (n s now since cost : ℕ) (room 
         fits = i .range .most;
       }
   sending (sendDesc v k) i =
-      let l : messages k ≤ messages k = omega arith in
-      (
+      let l : messages k ≤ messages k = omega arith in (
         record {
           asked = rw (last-suc (messages k), le-ltb (messages k) (messages k) l, eq-eqb (messages k) (messages k) refl);
           words = rw (last-suc (messages k), le-ltb (messages k) (messages k) l);
@@ -94,8 +93,7 @@ module _ (link : Link) (h : Hidden) (a : Bool) (n s now since cost : ℕ) (room 
       }
   sending (resetFirst (mDesc v k z)) i =
       let g = i .1 .1 in
-      let l : messages z ≤ messages z = omega arith in
-      (
+      let l : messages z ≤ messages z = omega arith in (
         record {
           asked = rw (last-suc (messages z), le-ltb (messages z) (messages z) l, eq-eqb (messages z) (messages z) refl);
           words = rw (last-suc (messages z), le-ltb (messages z) (messages z) l, g .0);

@@ -80,16 +80,16 @@ module _ (M N : Machine) (A : Alike M N) where
         let r = h .states in
         let next = goes-alike e w v h in
         let p : pay (turn e (M .asks s)) (held s) m f (λ m f. Rest m f (M .says e s) es (goes N e v)) =
-            subst (λ (a : Answer). pay (turn e (M .asks s)) (held s) m f (λ m f. Rest m f a es (goes N e v))) (sym (A .says e s t r))
-            (subst (λ (b : Bool). pay (turn e (M .asks s)) b m f (λ m f. Rest m f (N .says e t) es (goes N e v))) (sym (same-held s t r))
-            (subst (λ (x : Asks). pay (turn e x) (held' t) m f (λ m f. Rest m f (N .says e t) es (goes N e v))) (sym (A .asks s t r)) c)) in
+        subst (λ (a : Answer). pay (turn e (M .asks s)) (held s) m f (λ m f. Rest m f a es (goes N e v))) (sym (A .says e s t r))
+        (subst (λ (b : Bool). pay (turn e (M .asks s)) b m f (λ m f. Rest m f (N .says e t) es (goes N e v))) (sym (same-held s t r))
+        (subst (λ (x : Asks). pay (turn e x) (held' t) m f (λ m f. Rest m f (N .says e t) es (goes N e v))) (sym (A .asks s t r)) c)) in
         pay-map (turn e (M .asks s)) (held s) m f
         (λ m f. Rest m f (M .says e s) es (goes N e v))
         (λ m f. judged (M .says e s) (Good (M .says e s) m (goes M e w)) (Comes M held Good m f es (goes M e w)))
         (λ m f. judged-map (M .says e s) (Good' (M .says e s) m (goes N e v)) (Good (M .says e s) m (goes M e w))
-            (Comes N held' Good' m f es (goes N e v)) (Comes M held Good m f es (goes M e w))
-            (good (M .says e s) m (goes M e w) (goes N e v) next)
-            (comes-alike es m f (goes M e w) (goes N e v) next))
+        (Comes N held' Good' m f es (goes N e v)) (Comes M held Good m f es (goes M e w))
+        (good (M .says e s) m (goes M e w) (goes N e v) next)
+        (comes-alike es m f (goes M e w) (goes N e v) next))
         p
 
   holding-alike : (s : M .State) (t : N .State) → A .Same s t → holding M s ≡ holding N t
@@ -131,12 +131,12 @@ module _ (M N : Machine) (A : Alike M N) where
         subst (λ (l : Ledger). Comes M (holding M) (Confirmed M b (l .delivered)) (2 * (messages (length (b .block)) + 2)) 2 fs (goes M (submit b) w))
         (sym (h .seen))
         (comes-alike (holding M) (holding N) holding-alike (Confirmed M b (v .seen .delivered)) (Confirmed N b (v .seen .delivered))
-            (confirmed-here b (v .seen .delivered))
-            fs (2 * (messages (length (b .block)) + 2)) 2 (goes M (submit b) w) (goes N (submit b) v) (goes-alike (submit b) w v h)
-            (p .confirms es b fs
-                (ap (λ (l : Ledger). l .sound) (sym (h .seen)) ∙ i)
-                (clear-there (w .state) (v .state) (h .states) c)
-                (sym (A .says (submit b) (w .state) (v .state) (h .states)) ∙ o)))
+        (confirmed-here b (v .seen .delivered))
+        fs (2 * (messages (length (b .block)) + 2)) 2 (goes M (submit b) w) (goes N (submit b) v) (goes-alike (submit b) w v h)
+        (p .confirms es b fs
+        (ap (λ (l : Ledger). l .sound) (sym (h .seen)) ∙ i)
+        (clear-there (w .state) (v .state) (h .states) c)
+        (sym (A .says (submit b) (w .state) (v .state) (h .states)) ∙ o)))
 
     pub promise-alike : Promise largest M
     promise-alike =
