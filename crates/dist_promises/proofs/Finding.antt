@@ -1,22 +1,19 @@
 -- What a read of 27T finds, at the pair and in the model.
 -- Assumes nothing.
-use Prim.Native.Nat.{ℕ, _≤_, _<_}
-use mathlib.Core.Path.{_≡_, refl, ap, _∙_}
-use mathlib.Core.Bool.{Bool, true, false, cond, not, _&&_, _||_}
-use mathlib.Core.List.{List, [], _∷_}
+use Prim.Native.Nat.{ℕ}
+use mathlib.Core.Path.{_≡_, refl}
+use mathlib.Core.Bool.{true, false, cond}
+use mathlib.Core.List.{List, []}
 use native.Mathlib.Omega.{arith}
-use lib.Dec.{eqb, ltb}
-use lib.ListN.{length, getD}
+use lib.Dec.{eqb}
 use borrow.Author.Tests.{le-ltb, ne-eqb}
 use Rattle.words.specs.Allowed.{Allowed}
 use Rattle.words.specs.Link.{configuredOf}
 use Rattle.words.specs.Cutting.{sizeAnswerOf}
-use Rattle.words.specs.Count.{distributionCount, sameDistribution}
-use Rattle.words.specs.Control.{listOf, resetWords}
+use Rattle.words.specs.Count.{distributionCount}
+use Rattle.words.specs.Control.{listOf}
 use Rattle.words.specs.Reading.{plainOf, controlOf, readOf, readDistributionConfirmationOf}
 use Rattle.words.specs.declared.link.Link.{Link}
-use Rattle.words.specs.declared.answer.Answer.the-variants.{Accepted}
-use Rattle.words.specs.declared.control.DistributionConfirmation.{DistributionConfirmation}
 use Rattle.words.specs.declared.control.DistributionConfirmation.the-variants as DC
 use Rattle.words.specs.declared.status.Outcome.{Outcome}
 use Rattle.words.specs.declared.status.Outcome.the-variants.{Done, NoReply}

@@ -5,7 +5,7 @@ use mathlib.Core.Bool.{Bool, true, false, cond}
 use mathlib.Core.List.{List, [], _∷_}
 use lib.Dec.{ltb}
 use lib.ListN.{length}
-use Rattle.promises.specs.Run.{Block, Load, Item, Event, submit, reset, frame, arrive, toldDone, toldNoReply, restartSender, restartReceiver, deliver}
+use Rattle.promises.specs.Run.{Load, Item, Event, submit, reset, frame, arrive, toldDone, toldNoReply, restartSender, restartReceiver, deliver}
 use Rattle.promises.specs.Run as Run
 use Rattle.dist_promises.proofs.Parts.{Parts}
 use Rattle.dist_promises.proofs.Model.{Hand, empty, held, Flight, away, came, caught, Told, reply, noReply, wNone}

@@ -1,6 +1,6 @@
 -- What holds after every event, so that nothing is delivered twice, out of order or in pieces.
 -- Assumes nothing.
-use Prim.Native.Nat.{ℕ, suc, _+_, _≤_, _<_}
+use Prim.Native.Nat.{ℕ, suc, _≤_, _<_}
 use mathlib.Core.Path.{_≡_}
 use mathlib.Core.Bool.{Bool, true, false, _&&_}
 use mathlib.Core.List.{List, [], _∷_}
@@ -10,7 +10,7 @@ use Rattle.promises.specs.Promise.{Within, Same, messages}
 use Rattle.dist_promises.proofs.Parts.{Parts, Lawful, chunk}
 use Rattle.dist_promises.proofs.Model.{Msg, mData, mDesc, mReset, mRead, Word, wNone, wReset, wCount, wError, Hand, empty, held, Flight, away, came, caught}
 use Rattle.dist_promises.proofs.Model.{Phase, idle, sendData, sendDesc, await, reading, resetFirst, sendReset, awaitReset, readingReset}
-use Rattle.dist_promises.proofs.Model.{Tx, Rx, enough}
+use Rattle.dist_promises.proofs.Model.{Rx, enough}
 use Rattle.dist_promises.proofs.Ghost.{Book, System, newest}
 use Rattle.dist_promises.proofs.Circle.{Near}
 

@@ -1,20 +1,20 @@
 -- A message lands at the terminal: it does as the model's terminal does.
 -- Assumes nothing.
-use Prim.Native.Nat.{ℕ, suc, min, _+_, _-_, _*_, _/_, _≤_, _<_}
-use mathlib.Core.Path.{_≡_, refl, ap, subst, sym, _∙_}
-use mathlib.Core.Bool.{Bool, true, false, cond, not, _&&_, _||_}
-use mathlib.Core.List.{List, []}
+use Prim.Native.Nat.{ℕ, _+_, _≤_, _<_}
+use mathlib.Core.Path.{_≡_, refl}
+use mathlib.Core.Bool.{true, false}
+use mathlib.Core.List.{List}
 use native.Mathlib.Omega.{arith}
-use lib.Dec.{eqb, leb, ltb}
+use lib.Dec.{eqb}
 use lib.ListN.{length}
-use borrow.Author.Tests.{lt-ltb, le-ltb, le-leb, lt-leb, ne-eqb, eq-eqb, eqb-true}
+use borrow.Author.Tests.{le-ltb, le-leb, lt-leb, ne-eqb, eq-eqb}
 use Rattle.words.specs.Bytes.{wordsOf}
 use Rattle.words.specs.Link.{configuredOf, blockStoreOf, messageStoreOf}
 use Rattle.words.specs.Cutting.{messageSubaddressOf, usesOf, dataAnswerOf}
 use Rattle.words.specs.declared.answer.Answer.the-variants.{Accepted}
 use Rattle.words.specs.declared.link.Link.{Link}
 use Rattle.words.proofs.Ranges.{by, link-ranges}
-use Rattle.dist_terminal.specs.Data.{storeShort, notedOf, answerOf, dataOf, placedOf, storeAfter}
+use Rattle.dist_terminal.specs.Data.{notedOf, answerOf, dataOf, placedOf, storeAfter}
 use Rattle.dist_terminal.specs.Descriptor.{short}
 use Rattle.dist_terminal.specs.Calls as Terminal
 use Rattle.promises.specs.Run.{Block}

@@ -1,12 +1,12 @@
 -- A descriptor or a Reset lands at the terminal: it does as the model's terminal does.
 -- Assumes nothing.
-use Prim.Native.Nat.{ℕ, suc, _≤_, _<_}
-use mathlib.Core.Path.{_≡_, refl, ap, subst, sym, _∙_}
-use mathlib.Core.Bool.{Bool, true, false, cond, not, _&&_, _||_}
-use mathlib.Core.List.{List, []}
+use Prim.Native.Nat.{ℕ, _≤_}
+use mathlib.Core.Path.{_≡_, refl, subst, sym}
+use mathlib.Core.Bool.{Bool, true, false}
+use mathlib.Core.List.{List}
 use native.Mathlib.Omega.{arith}
-use lib.Dec.{eqb, ltb}
-use lib.ListN.{length, take}
+use lib.Dec.{eqb}
+use lib.ListN.{length}
 use lib.Seq.{sets, length-sets}
 use Rattle.words.specs.Count.{distributionCount}
 use Rattle.words.specs.Control.{qualityOf, descriptorWords, resetWords, listOf}
@@ -17,14 +17,14 @@ use Rattle.words.proofs.Ranges.{by}
 use Rattle.words.proofs.Round.{descriptor-back, reset-descriptor-back}
 use Rattle.stores.proofs.Runs.{take-sets}
 use Rattle.dist_terminal.specs.Length.{lengthMet}
-use Rattle.dist_terminal.specs.Descriptor.{isHolding, unmetOf, judgedOf, blockStep, takenOf, blockHand, descriptorOf, handAfter}
+use Rattle.dist_terminal.specs.Descriptor.{unmetOf, judgedOf, blockStep, takenOf, blockHand, descriptorOf, handAfter}
 use Rattle.dist_terminal.specs.Calls as Terminal
 use Rattle.dist_terminal.specs.declared.descriptor.Judged.{Judged}
 use Rattle.dist_terminal.specs.declared.descriptor.Judged.the-variants.{NoReset, Again, HandFull, WrongLength, Good}
 use Rattle.promises.specs.Run.{Block}
 use Rattle.dist_promises.proofs.Modes.{Received, parts, withParts}
-use Rattle.dist_promises.proofs.Model.{Hand, empty, held, Word, wError, Rx, mDesc, mReset, received, enough, onDesc}
-use Rattle.dist_promises.proofs.Real.{Hidden, withHand, handOf, terminalOf, HandIs, WordIs, Within, Ground}
+use Rattle.dist_promises.proofs.Model.{Hand, empty, held, Word, Rx, mDesc, mReset, received, enough, onDesc}
+use Rattle.dist_promises.proofs.Real.{Hidden, withHand, terminalOf, HandIs, WordIs, Within, Ground}
 use Rattle.dist_promises.proofs.Finding.{allowed}
 use Rattle.dist_promises.proofs.Lands.{all-long}
 

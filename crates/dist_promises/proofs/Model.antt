@@ -1,8 +1,7 @@
 -- Distribution without words and numbers: the two ends as the proof sees them. Module Alike shows that the pair's steps are these.
 -- Assumes nothing.
-use Prim.Native.Nat.{ℕ, zero, suc, _+_, _-_, _*_, _/_, _%_}
+use Prim.Native.Nat.{ℕ, suc, _+_, _-_, _%_}
 use mathlib.Core.Bool.{Bool, true, false, cond, _&&_}
-use mathlib.Core.List.{List, [], _∷_}
 use lib.Dec.{eqb, ltb, leb}
 use lib.ListN.{length}
 use Rattle.promises.specs.Run.{Block, Load, Event, submit, reset, frame, arrive, toldDone, toldNoReply, restartSender, restartReceiver, deliver}

@@ -1,9 +1,8 @@
 -- What the proof asks of a terminal's message parts; both modes have it (module Modes). Message j of a block is its bytes from 64 * j on.
 -- Assumes nothing.
-use Prim.Native.Nat.{ℕ, suc, _+_, _*_, _/_, _≤_, _<_}
+use Prim.Native.Nat.{ℕ, suc, _*_, _≤_, _<_}
 use mathlib.Core.Path.{_≡_}
-use mathlib.Core.Bool.{Bool, true, false}
-use mathlib.Core.List.{List, [], _∷_}
+use mathlib.Core.Bool.{Bool, true}
 use lib.Dec.{T}
 use lib.ListN.{length, take, drop}
 use Rattle.promises.specs.Run.{Block, areBytes}

@@ -14,7 +14,7 @@ use Rattle.dist_promises.proofs.Waiting.{no-way}
 use Rattle.dist_promises.proofs.Holds.{Holds, holds-run, stands, kept, counts, admits}
 use Rattle.dist_promises.proofs.Tidy.{tidy-run}
 use Rattle.dist_promises.proofs.Accepts.{accepts}
-use Rattle.dist_promises.proofs.Begins.{Poised, confirms}
+use Rattle.dist_promises.proofs.Begins.{confirms}
 
 near : (a : Bool) (s n d : ℕ) → a ≡ true → CloseHandled a s n d → 0 < d → Near s n d
 near false s n d e h z = no-way cc

@@ -24,8 +24,7 @@ use Rattle.dist_terminal.specs.declared.state.Hand.the-variants.{Empty, Holding
 use Rattle.dist_terminal.specs.declared.state.Terminal.{Terminal}
 use Rattle.dist_pair.specs.declared.state.Flight as RealFlight
 use Rattle.dist_pair.specs.declared.state.Flight.the-variants.{NotArrived, Arrived, Caught}
-use Rattle.dist_pair.specs.declared.state.Pair.{Pair}
-use Rattle.promises.specs.Run.{Block, Load, Event}
+use Rattle.promises.specs.Run.{Load, Event}
 use Rattle.promises.specs.Promise.{messages}
 use Rattle.dist_promises.specs.Distribution.{Ends}
 use Rattle.dist_promises.proofs.Parts.{Lawful, chunk}

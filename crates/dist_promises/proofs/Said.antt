@@ -1,11 +1,9 @@
 -- What an event of the pair is seen to say, by the fates and the acceptance before and after it.
 -- Assumes nothing.
-use Prim.Native.Nat.{ℕ}
-use mathlib.Core.Path.{_≡_, refl, ap, _∙_}
+use mathlib.Core.Path.{_≡_, refl}
 use mathlib.Core.Bool.{Bool, true, false, cond, not, _&&_}
 use Rattle.words.specs.Link.{configuredOf}
 use Rattle.dist_controller.specs.Report.{reportOf, acceptanceOf, pendingOf}
-use Rattle.dist_controller.specs.Asked.{messageList}
 use Rattle.dist_controller.specs.declared.state.Phase.{Phase}
 use Rattle.dist_controller.specs.declared.state.Phase.the-variants.{Idle, Sending, Waiting, Reading, Resetting, ResetWaiting, ResetReading, CutSending, CutReading, CutResetting}
 use Rattle.dist_controller.specs.declared.state.Fate.{Fate}

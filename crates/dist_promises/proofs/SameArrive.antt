@@ -2,9 +2,8 @@
 -- Assumes nothing.
 use Prim.Native.Nat.{ℕ, _≤_, _<_}
 use mathlib.Core.Path.{_≡_, refl, ap, subst, sym, _∙_}
-use mathlib.Core.Bool.{Bool, true, false, cond, not, _||_}
-use mathlib.Core.List.{List, []}
-use lib.Dec.{ltb}
+use mathlib.Core.Bool.{Bool, false, not}
+use mathlib.Core.List.{List}
 use lib.ListN.{length}
 use borrow.Author.Tests.{le-ltb}
 use Rattle.words.specs.Link.{blockStoreOf}
@@ -24,7 +23,7 @@ use Rattle.promises.specs.Promise.{messages}
 use Rattle.dist_promises.specs.Distribution.{Ends, stepOf}
 use Rattle.dist_promises.proofs.Parts.{chunk}
 use Rattle.dist_promises.proofs.Modes.{Received, parts}
-use Rattle.dist_promises.proofs.Model.{Msg, mData, mDesc, mReset, mRead, Asked, unasked, asked, askedBy, Word, Flight, away, came, caught, Tx, Rx, Meter, State, received, arrives, flown}
+use Rattle.dist_promises.proofs.Model.{mData, mDesc, mReset, mRead, Asked, unasked, asked, askedBy, Word, Flight, away, came, caught, Tx, Rx, Meter, State, arrives, flown}
 use Rattle.dist_promises.proofs.Real.{Hidden, withHand, phase-kept, controllerOf, real, Within, Ground, Facts, Stands, moves}
 use Rattle.dist_promises.proofs.Sends.{Sends, SendsWords, sending}
 use Rattle.dist_promises.proofs.Lands.{all-long, data-lands, data-placed, data-hand}

@@ -1,12 +1,12 @@
 -- A frame, a Reset and restarts: the pair does as the model does.
 -- Assumes nothing.
-use Prim.Native.Nat.{ℕ, suc, _+_, _≤_, _<_}
-use mathlib.Core.Path.{_≡_, refl, ap, subst, sym, _∙_}
-use mathlib.Core.Bool.{Bool, true, false, cond, not, _&&_, _||_}
-use mathlib.Core.List.{List, [], _∷_}
+use Prim.Native.Nat.{ℕ}
+use mathlib.Core.Path.{_≡_, refl, ap, sym, _∙_}
+use mathlib.Core.Bool.{Bool, true, false, cond, not}
+use mathlib.Core.List.{List}
 use native.Mathlib.Omega.{arith}
-use lib.Dec.{leb, ltb}
-use lib.ListN.{length, take}
+use lib.Dec.{leb}
+use lib.ListN.{length}
 use borrow.Author.Tests.{le-ltb}
 use Rattle.words.specs.Link.{configuredOf, messageStoreOf}
 use Rattle.words.specs.Tick.{nextTick, ageOf}
@@ -22,14 +22,13 @@ use Rattle.dist_controller.specs.declared.state.Fate.the-variants as Fate
 use Rattle.dist_controller.specs.declared.state.Finding.the-variants as Finding
 use Rattle.dist_controller.specs.declared.state.Controller.{Controller}
 use Rattle.dist_pair.specs.Events as Events
-use Rattle.dist_pair.specs.declared.state.Pair.{Pair}
 use Rattle.promises.specs.Run.{Block, frame, reset, restartSender, restartReceiver}
 use Rattle.dist_promises.specs.Distribution.{Ends, stepOf}
-use Rattle.dist_promises.proofs.Parts.{Lawful, chunk}
+use Rattle.dist_promises.proofs.Parts.{chunk}
 use Rattle.dist_promises.proofs.Modes.{Received, parts}
 use Rattle.dist_promises.proofs.Model.{Phase, idle, sendData, sendDesc, await, reading, resetFirst, sendReset, awaitReset, readingReset}
-use Rattle.dist_promises.proofs.Model.{mData, mDesc, mReset, mRead, Tx, Meter, State, at, framed, asksRead, firstAge, age, ticked, isOpen, cut, askedBy}
-use Rattle.dist_promises.proofs.Real.{Hidden, phaseOf, sizeIn, qualityIn, flightOf, terminalOf, controllerOf, real, PhaseIs, Ground, Facts, Stands, moves}
+use Rattle.dist_promises.proofs.Model.{mData, mDesc, mReset, mRead, Tx, Meter, State, framed, asksRead, firstAge, age, ticked, isOpen, cut, askedBy}
+use Rattle.dist_promises.proofs.Real.{Hidden, phaseOf, sizeIn, qualityIn, flightOf, terminalOf, controllerOf, real, PhaseIs, Ground, Stands, moves}
 
 abbrev pub tx : Bool → ℕ → ℕ → Phase → Tx
 tx a n s p = record { accepted = a; count = n; spent = s; phase = p }

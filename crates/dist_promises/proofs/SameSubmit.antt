@@ -1,15 +1,15 @@
 -- A submission: the pair does as the model does.
 -- Assumes nothing.
-use Prim.Native.Nat.{ℕ, zero, suc, _+_, _*_, _/_, _%_, _≤_, _<_}
+use Prim.Native.Nat.{ℕ, _+_, _*_, _/_, _%_, _≤_, _<_}
 use mathlib.Core.Path.{_≡_, refl, ap, subst, sym, _∙_}
-use mathlib.Core.Bool.{Bool, true, false, cond, not, _&&_, _||_}
-use mathlib.Core.List.{List, [], _∷_}
+use mathlib.Core.Bool.{Bool, true, false, cond, _&&_}
+use mathlib.Core.List.{List}
 use mathlib.Core.Logic.{_⊎_, inl, inr, ⊎-elim}
 use native.Mathlib.Omega.{arith}
-use lib.Dec.{T, eqb, leb, ltb}
-use lib.ListN.{length, take, getD}
-use lib.Seq.{sets, sets-eq, take-all, take-append-le}
-use borrow.Author.Tests.{le-ltb, lt-ltb, le-leb, lt-leb, ne-eqb, eqb-true, eqb-false, ltb-true, ltb-false, leb-true, leb-false}
+use lib.Dec.{eqb, leb, ltb}
+use lib.ListN.{length, take}
+use lib.Seq.{sets-eq, take-all, take-append-le}
+use borrow.Author.Tests.{le-ltb, lt-ltb, le-leb, lt-leb, eqb-true, eqb-false, ltb-true, ltb-false, leb-true, leb-false}
 use Rattle.words.specs.Bytes.{bytesOf, wordsOf, Octets}
 use Rattle.words.specs.Count.{nextNumber}
 use Rattle.words.specs.Link.{configuredOf, blockStoreOf}
@@ -28,9 +28,8 @@ use Rattle.dist_controller.specs.Submit as Submit
 use Rattle.dist_controller.specs.Submit.{shortOf, limit, roomAnswerOf, thenAnswer, submitAnswerOf, startedOf, oneMoreSpent}
 use Rattle.dist_controller.specs.declared.state.Fate.{Fate}
 use Rattle.dist_controller.specs.declared.state.Fate.the-variants as Fate
-use Rattle.dist_controller.specs.declared.state.Controller.{Controller}
 use Rattle.dist_pair.specs.Events as Events
-use Rattle.promises.specs.Run.{Block, Load, areBytes, submit, Answer, denied, ok}
+use Rattle.promises.specs.Run.{Block, Load, submit, Answer, denied, ok}
 use Rattle.promises.specs.Promise.{messages}
 use Rattle.dist_promises.specs.Distribution.{Ends, stepOf, saysOf}
 use Rattle.dist_promises.proofs.Modes.{Received}

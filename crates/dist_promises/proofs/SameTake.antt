@@ -1,17 +1,15 @@
 -- A take: the pair does and says as the model does.
 -- Assumes nothing.
-use Prim.Native.Nat.{ℕ, suc, min, _≤_, _<_}
+use Prim.Native.Nat.{ℕ, min, _≤_}
 use mathlib.Core.Path.{_≡_, refl, ap, subst, sym, _∙_}
-use mathlib.Core.Bool.{Bool, true, false, cond, not, _||_}
-use mathlib.Core.List.{List, [], _∷_}
+use mathlib.Core.Bool.{Bool, false, cond}
+use mathlib.Core.List.{List}
 use mathlib.Core.Logic.{⊎-elim}
 use native.Mathlib.Omega.{arith}
 use lib.Dec.{ltb}
 use lib.ListN.{length, take}
-use lib.Seq.{sets}
 use borrow.Author.Tests.{le-ltb, ltb-false}
-use Rattle.words.specs.Link.{configuredOf, blockStoreOf}
-use Rattle.words.specs.Count.{distributionCount}
+use Rattle.words.specs.Link.{blockStoreOf}
 use Rattle.words.specs.declared.link.Link.{Link}
 use Rattle.words.proofs.Ranges.{by, largest-cases}
 use Rattle.stores.specs.Copying.{copiedOf}
@@ -19,11 +17,11 @@ use Rattle.stores.proofs.Runs.{take-sets}
 use Rattle.dist_terminal.specs.Take as Take
 use Rattle.dist_terminal.specs.Take.{handShort}
 use Rattle.dist_pair.specs.Events as Events
-use Rattle.promises.specs.Run.{Block, deliver, Answer, denied, gave}
+use Rattle.promises.specs.Run.{Block, deliver, gave}
 use Rattle.dist_promises.specs.Distribution.{Ends, stepOf, saysOf}
 use Rattle.dist_promises.proofs.Modes.{Received, parts}
-use Rattle.dist_promises.proofs.Model.{Word, Hand, empty, held, Tx, Rx, Flight, Meter, State, taken, ofTake}
-use Rattle.dist_promises.proofs.Real.{Hidden, withHand, phase-kept, real, HandIs, WordIs, HeldIs, Ground, Facts, Stands, moves}
+use Rattle.dist_promises.proofs.Model.{Word, Hand, empty, held, Tx, Flight, Meter, State, taken, ofTake}
+use Rattle.dist_promises.proofs.Real.{Hidden, withHand, phase-kept, real, HandIs, WordIs, Ground, Stands, moves}
 
 -- 27T then shows the size of the block in hand
 abbrev shownSize : Hand → ℕ → ℕ → ℕ

@@ -2,25 +2,22 @@
 -- Assumes nothing.
 use Prim.Native.Nat.{ℕ}
 use mathlib.Core.Path.{_≡_, refl, ap, subst, sym, _∙_}
-use mathlib.Core.Bool.{Bool, true, false, cond, not}
-use mathlib.Core.List.{List, []}
+use mathlib.Core.Bool.{Bool}
+use mathlib.Core.List.{List}
 use lib.Dec.{leb}
-use lib.ListN.{length}
-use Rattle.words.specs.Link.{configuredOf}
 use Rattle.words.specs.declared.link.Link.{Link}
 use Rattle.dist_controller.specs.Report.{reportOf}
 use Rattle.dist_controller.specs.Told.{refuse, toldOf}
 use Rattle.dist_pair.specs.Bus as Bus
 use Rattle.dist_pair.specs.Bus.{tellOf}
-use Rattle.dist_pair.specs.declared.state.Pair.{Pair}
 use Rattle.dist_pair.specs.declared.state.Stepped.{Stepped}
 use Rattle.promises.specs.Run.{toldDone, toldNoReply, Answer, denied}
 use Rattle.dist_promises.specs.Distribution.{Ends, stepOf, saysOf, answerOf}
 use Rattle.dist_promises.proofs.Modes.{Received, parts}
 use Rattle.dist_promises.proofs.Model.{Phase, idle, sendData, sendDesc, await, reading, resetFirst, sendReset, awaitReset, readingReset}
-use Rattle.dist_promises.proofs.Model.{Tx, Rx, Meter, State, Flight, away, came, caught, told, stamped, costs, toldIn, toldSays, ofTold, age, doneIn, doneSays}
-use Rattle.dist_promises.proofs.Real.{Hidden, controllerOf, terminalOf, flightOf, real, Ground, Facts, Stands, moves}
-use Rattle.dist_promises.proofs.Said.{newsIn, news}
+use Rattle.dist_promises.proofs.Model.{Tx, Rx, Meter, State, Flight, away, came, caught, told, stamped, costs, toldIn, toldSays, ofTold, age, doneSays}
+use Rattle.dist_promises.proofs.Real.{Hidden, controllerOf, real, Ground, Facts, Stands, moves}
+use Rattle.dist_promises.proofs.Said.{news}
 use Rattle.dist_promises.proofs.SameFrame.{tx, meter}
 use Rattle.dist_promises.proofs.Finding.{Spoken, none, bare, words, toldFor, outcomeFor, wordsFor, SpokenIs}
 use Rattle.dist_promises.proofs.Spoke.{Spoke, withTransfer, t}

@@ -1,12 +1,10 @@
 -- A frame, a Reset and restarts: the pair says what the model says.
 -- Assumes nothing.
-use Prim.Native.Nat.{ℕ, suc}
-use mathlib.Core.Path.{_≡_, refl, ap, sym, _∙_}
-use mathlib.Core.Bool.{Bool, true, false, cond, not, _&&_}
+use Prim.Native.Nat.{ℕ}
+use mathlib.Core.Path.{_≡_, refl, ap, _∙_}
+use mathlib.Core.Bool.{Bool, true, false, cond}
 use mathlib.Core.List.{List}
 use lib.Dec.{leb}
-use lib.ListN.{length}
-use Rattle.words.specs.Link.{configuredOf}
 use Rattle.words.specs.declared.link.Link.{Link}
 use Rattle.dist_controller.specs.Report.{reportOf}
 use Rattle.dist_controller.specs.State.{freshOf}
@@ -16,12 +14,12 @@ use Rattle.dist_controller.specs.declared.state.Fate.the-variants as Fate
 use Rattle.dist_controller.specs.declared.state.Controller as RealState
 use Rattle.dist_terminal.specs.Calls as Terminal
 use Rattle.dist_pair.specs.Events as Events
-use Rattle.promises.specs.Run.{frame, reset, restartSender, restartReceiver, Answer, ok, failed, abandoned}
+use Rattle.promises.specs.Run.{frame, reset, restartSender, restartReceiver, ok, failed, abandoned}
 use Rattle.dist_promises.specs.Distribution.{Ends, saysOf, newsOf}
 use Rattle.dist_promises.proofs.Modes.{Received}
 use Rattle.dist_promises.proofs.Model.{Phase, idle, sendData, sendDesc, await, reading, resetFirst, sendReset, awaitReset, readingReset}
 use Rattle.dist_promises.proofs.Model.{State, framed, asksRead, firstAge, age, ticked, isOpen, cut, askedBy}
-use Rattle.dist_promises.proofs.Real.{Hidden, fateIn, controllerOf, real, NotOpen, PhaseIs, Ground, Facts, Stands}
+use Rattle.dist_promises.proofs.Real.{Hidden, fateIn, controllerOf, real, PhaseIs, Ground, Facts, Stands}
 use Rattle.dist_promises.proofs.Said.{newsIn, news, shut}
 use Rattle.dist_promises.proofs.SameFrame.{tx, meter, frame-controller, cutHidden, cut-alike, store-long}
 

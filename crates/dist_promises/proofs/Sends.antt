@@ -1,11 +1,10 @@
 -- The message that the controller asks for, and its words: the model's.
 -- Assumes nothing.
-use Prim.Native.Nat.{ℕ, suc, min, _+_, _-_, _*_, _/_, _≤_, _<_}
-use mathlib.Core.Path.{_≡_, refl, ap, sym, _∙_}
-use mathlib.Core.Bool.{Bool, true, false, cond}
-use mathlib.Core.List.{List, []}
+use Prim.Native.Nat.{ℕ, suc, _≤_, _<_}
+use mathlib.Core.Path.{_≡_, refl, sym, _∙_}
+use mathlib.Core.Bool.{Bool}
+use mathlib.Core.List.{List}
 use native.Mathlib.Omega.{arith}
-use lib.Dec.{eqb, ltb}
 use lib.ListN.{length, take, length-take}
 use borrow.Author.Tests.{lt-ltb, le-ltb, ne-eqb, eq-eqb}
 use Rattle.words.specs.Bytes.{wordsOf}
@@ -15,14 +14,13 @@ use Rattle.words.specs.Cutting.{messagesOf, messageWordsOf, messageSubaddressOf
 use Rattle.words.specs.declared.link.Link.{Link}
 use Rattle.dist_controller.specs.Asked.{transferMessage, lastOf, askedOf}
 use Rattle.dist_controller.specs.Message.{transferWordsAt, wordsAsked}
-use Rattle.dist_controller.specs.declared.asked.Asked as Real
 use Rattle.dist_controller.specs.declared.asked.Asked.the-variants.{Nothing, Receive, Transmit}
 use Rattle.dist_controller.specs.declared.state.Controller.{Controller}
-use Rattle.promises.specs.Run.{Block, nothing, sends, reads, Asks}
+use Rattle.promises.specs.Run.{Block, nothing}
 use Rattle.promises.specs.Promise.{messages}
 use Rattle.dist_promises.specs.Distribution.{askingOf}
 use Rattle.dist_promises.proofs.Parts.{chunk}
-use Rattle.dist_promises.proofs.Model.{Msg, mData, mDesc, mReset, mRead, Asked, unasked, asked, askedBy, asksFor, Flight, arrivedYet}
+use Rattle.dist_promises.proofs.Model.{mData, mDesc, mReset, mRead, Asked, unasked, asked, askedBy, asksFor, Flight, arrivedYet}
 use Rattle.dist_promises.proofs.Model.{Phase, idle, sendData, sendDesc, await, reading, resetFirst, sendReset, awaitReset, readingReset}
 use Rattle.dist_promises.proofs.Real.{Hidden, controllerOf, PhaseIs, Within}
 use Rattle.dist_promises.proofs.SameFrame.{tx, meter}

@@ -1,13 +1,12 @@
 -- An outcome is told to the controller: what it does is what the model does, phase by phase.
 -- Assumes nothing.
-use Prim.Native.Nat.{ℕ, suc, _+_, _/_, _≤_, _<_}
-use mathlib.Core.Path.{_≡_, refl, ap, subst, sym, _∙_}
-use mathlib.Core.Bool.{Bool, true, false, cond, not, _&&_, _||_}
-use mathlib.Core.List.{List, []}
+use Prim.Native.Nat.{ℕ, suc, _≤_, _<_}
+use mathlib.Core.Path.{_≡_, refl, ap, _∙_}
+use mathlib.Core.Bool.{Bool, true, false, cond}
 use mathlib.Core.Logic.{⊎-elim}
 use native.Mathlib.Omega.{arith}
 use lib.Dec.{T, eqb, leb, ltb}
-use lib.ListN.{length, take}
+use lib.ListN.{length}
 use borrow.Author.Tests.{le-ltb, lt-ltb, ne-eqb, ltb-true, ltb-false}
 use Rattle.words.specs.Link.{configuredOf}
 use Rattle.words.specs.Tick.{ageOf}
@@ -17,21 +16,21 @@ use Rattle.words.specs.declared.link.Link.{Link}
 use Rattle.words.specs.declared.control.Quality.{Quality}
 use Rattle.words.proofs.Ranges.{by, largest-cases}
 use Rattle.dist_controller.specs.State.{countedOf, withFinding}
-use Rattle.dist_controller.specs.Told.{accept, toldOf, sentOf, stopsOf, overdueOf, unansweredOf, readOf, toldReading, resetSentOf, notShown, resetReadOf, toldResetReading, toldCutReading}
+use Rattle.dist_controller.specs.Told.{accept, toldOf, sentOf, stopsOf, overdueOf, unansweredOf, readOf, toldReading}
 use Rattle.dist_controller.specs.declared.state.Fate.{Fate}
 use Rattle.dist_controller.specs.declared.state.Fate.the-variants as Fate
 use Rattle.dist_controller.specs.declared.state.Finding.{Finding}
 use Rattle.dist_controller.specs.declared.state.Finding.the-variants as Finding
 use Rattle.dist_controller.specs.declared.state.Controller.{Controller}
-use Rattle.promises.specs.Run.{Block, Load, areBytes, Answer, ok, failed, unconfirmed}
+use Rattle.promises.specs.Run.{Block, Load, areBytes, ok, failed, unconfirmed}
 use Rattle.promises.specs.Promise.{messages}
-use Rattle.dist_promises.proofs.Model.{Phase, idle, sendData, sendDesc, await, reading, resetFirst, sendReset, awaitReset, readingReset, mData, mDesc, mReset, mRead}
-use Rattle.dist_promises.proofs.Model.{Word, wNone, wReset, wCount, wError, Tx, Meter, Told, reply, noReply, told, stamped, costs, ofTold, age, more, at, behind, strictly, Shown, sConfirmed, sRefused, sReset, sOther, showsAt, later, onRead, onReadReset, ofRead}
-use Rattle.dist_promises.proofs.Real.{Hidden, controllerOf, sizeIn, qualityIn, fateIn, NotOpen, PhaseIs, SendingIs, DescIs, WordIs}
-use Rattle.dist_promises.proofs.Said.{newsIn, shut}
+use Rattle.dist_promises.proofs.Model.{Phase, sendData, sendDesc, await, reading}
+use Rattle.dist_promises.proofs.Model.{Word, wNone, wReset, wCount, wError, Tx, reply, told, stamped, costs, ofTold, age, more, at, strictly, Shown, sReset, sOther, showsAt, later, onRead, ofRead}
+use Rattle.dist_promises.proofs.Real.{Hidden, controllerOf, fateIn, PhaseIs, SendingIs, DescIs, WordIs}
+use Rattle.dist_promises.proofs.Said.{newsIn}
 use Rattle.dist_promises.proofs.SaysFrame.{quiet}
 use Rattle.dist_promises.proofs.SameFrame.{tx, meter}
-use Rattle.dist_promises.proofs.Finding.{Spoken, none, bare, words, toldFor, outcomeFor, wordsFor, SpokenIs, foundWaiting, foundElse, finding-waiting, finding-else}
+use Rattle.dist_promises.proofs.Finding.{Spoken, none, bare, words, toldFor, outcomeFor, wordsFor, SpokenIs, foundWaiting, finding-waiting}
 
 abbrev pub withTransfer : ℕ → Quality → Fate → Finding → Hidden → Hidden
 withTransfer size quality fate found h =

@@ -1,32 +1,29 @@
 -- An outcome is told to a controller that resets: what it does is what the model does; and in every phase.
 -- Assumes nothing.
-use Prim.Native.Nat.{ℕ, suc, _≤_, _<_}
-use mathlib.Core.Path.{_≡_, refl, ap, sym, _∙_}
-use mathlib.Core.Bool.{Bool, true, false, cond, not, _&&_}
-use mathlib.Core.List.{List, []}
+use Prim.Native.Nat.{ℕ, _≤_}
+use mathlib.Core.Path.{_≡_, refl, _∙_}
+use mathlib.Core.Bool.{Bool, true, false}
 use native.Mathlib.Omega.{arith}
-use lib.Dec.{eqb, leb}
+use lib.Dec.{eqb}
 use Rattle.words.specs.Link.{configuredOf}
 use Rattle.words.specs.Tick.{ageOf}
 use Rattle.words.specs.Control.{qualityOf}
 use Rattle.words.specs.declared.link.Link.{Link}
 use Rattle.words.proofs.Ranges.{by}
 use Rattle.dist_controller.specs.State.{withFinding}
-use Rattle.dist_controller.specs.Told.{accept, refuse, toldOf, overdueOf, resetSentOf, notShown, resetReadOf, toldResetReading, toldCutReading}
-use Rattle.dist_controller.specs.declared.state.Fate.{Fate}
-use Rattle.dist_controller.specs.declared.state.Fate.the-variants as Fate
+use Rattle.dist_controller.specs.Told.{refuse, toldOf, overdueOf, resetSentOf, notShown, resetReadOf, toldResetReading, toldCutReading}
 use Rattle.dist_controller.specs.declared.state.Finding.{Finding}
 use Rattle.dist_controller.specs.declared.state.Finding.the-variants as Finding
 use Rattle.dist_controller.specs.declared.state.Controller.{Controller}
-use Rattle.promises.specs.Run.{Answer, ok, accepted}
+use Rattle.promises.specs.Run.{ok}
 use Rattle.dist_promises.proofs.Model.{Phase, idle, sendData, sendDesc, await, reading, resetFirst, sendReset, awaitReset, readingReset, Msg, mData, mDesc, mReset, mRead}
-use Rattle.dist_promises.proofs.Model.{wNone, wReset, wCount, wError, Tx, Asked, unasked, asked, askedBy, Shown, sConfirmed, sRefused, sReset, sOther, showsAt, later, onReadReset, ofReset, at, told}
-use Rattle.dist_promises.proofs.Real.{Hidden, controllerOf, NotOpen, PhaseIs, CutIs, WordIs}
-use Rattle.dist_promises.proofs.Said.{newsIn, shut}
+use Rattle.dist_promises.proofs.Model.{wNone, wReset, wCount, wError, Tx, Asked, unasked, asked, askedBy, Shown, sConfirmed, sRefused, sOther, showsAt, later, onReadReset, ofReset, at, told}
+use Rattle.dist_promises.proofs.Real.{Hidden, NotOpen, PhaseIs, CutIs}
+use Rattle.dist_promises.proofs.Said.{shut}
 use Rattle.dist_promises.proofs.SaysFrame.{quiet}
-use Rattle.dist_promises.proofs.SameFrame.{tx, meter}
+use Rattle.dist_promises.proofs.SameFrame.{tx}
 use Rattle.dist_promises.proofs.Finding.{Spoken, none, bare, words, toldFor, outcomeFor, wordsFor, SpokenIs, foundElse, finding-else}
-use Rattle.dist_promises.proofs.Spoke.{Spoke, c, x, t, spoke-desc, spoke-data, spoke-read}
+use Rattle.dist_promises.proofs.Spoke.{Spoke, c, x, spoke-desc, spoke-data, spoke-read}
 
 module _ (link : Link) (h : Hidden) (wide : ℕ) (a : Bool) (n s now since cost : ℕ) (conf : configuredOf link ≡ true) (low : n ≤ 255) where
   abbrev Here : Spoken → Phase → Type 0

@@ -1,8 +1,8 @@
 -- A configured link, both ends fresh: where the pair and the model start.
 -- Assumes nothing.
-use Prim.Native.Nat.{ℕ, _≤_, _<_}
+use Prim.Native.Nat.{ℕ, _≤_}
 use mathlib.Core.Path.{_≡_, refl, ap, sym, _∙_}
-use mathlib.Core.Bool.{Bool, true, false, cond, not, _||_}
+use mathlib.Core.Bool.{Bool, true, false, _||_}
 use mathlib.Core.List.{List}
 use native.Mathlib.Omega.{arith}
 use lib.Dec.{ltb}
@@ -26,13 +26,12 @@ use Rattle.dist_terminal.specs.State as TerminalState
 use Rattle.dist_terminal.specs.declared.state.Stepped as TerminalStepped
 use Rattle.dist_pair.specs.State.{unconfigured}
 use Rattle.dist_pair.specs.Events as Events
-use Rattle.promises.specs.Run.{Machine}
-use Rattle.dist_promises.specs.Distribution.{Ends, distribution}
+use Rattle.dist_promises.specs.Distribution.{distribution}
 use Rattle.dist_promises.proofs.Modes.{Received, parts}
 use Rattle.dist_promises.proofs.ModeStore.{fresh-again, long-enough}
 use Rattle.dist_promises.proofs.Lawfully.{lawful}
 use Rattle.dist_promises.proofs.Model.{State, model}
-use Rattle.dist_promises.proofs.Real.{Hidden, real, Ground, Facts, Stands}
+use Rattle.dist_promises.proofs.Real.{Hidden, real, Ground, Stands}
 
 not-refused : {A : Type 0} (n : ℕ) → Refused n ≡ Accepted → A
 not-refused n e = absurd (let z : _≡_ {A = ℕ} 0 1 = cc in omega arith)

@@ -1,8 +1,8 @@
 -- Demand 3 for distribution: whatever configuring accepts, the pair keeps the promise.
 -- Assumes nothing.
-use Prim.Native.Nat.{ℕ, suc, _≤_, _<_}
+use Prim.Native.Nat.{ℕ}
 use mathlib.Core.Path.{_≡_, refl, ap, sym, _∙_}
-use mathlib.Core.Bool.{Bool, true, false}
+use mathlib.Core.Bool.{Bool}
 use mathlib.Core.List.{List}
 use lib.ListN.{length}
 use Rattle.words.specs.declared.answer.Answer.the-variants.{Accepted}
@@ -13,14 +13,15 @@ use Rattle.dist_controller.specs.Report.{reportOf}
 use Rattle.dist_pair.specs.State.{unconfigured}
 use Rattle.dist_pair.specs.Events as Events
 use Rattle.dist_pair.specs.Bus as Bus
-use Rattle.promises.specs.Run.{Event, submit, reset, frame, arrive, toldDone, toldNoReply, restartSender, restartReceiver, deliver, Asks, Machine}
+use Rattle.promises.specs.Run.{Event, submit, reset, frame, arrive, toldDone, toldNoReply, restartSender, restartReceiver, deliver, Machine}
 use Rattle.promises.specs.Promise.{Promise}
 use Rattle.promises.proofs.Alike.{Alike, promise-alike}
-use Rattle.dist_promises.specs.Distribution.{Ends, askingOf, messagesOf, stepOf, saysOf, distribution}
+use Rattle.dist_promises.specs.Distribution.{Ends, askingOf, messagesOf, stepOf, saysOf, distribution, partless}
 use Rattle.dist_promises.proofs.Modes.{Received, parts}
+use Rattle.dist_promises.proofs.Lawfully.{unnumbered, lawful-zero}
 use Rattle.dist_promises.proofs.Model.{Phase, idle, sendData, sendDesc, await, reading, resetFirst, sendReset, awaitReset, readingReset, mData, mDesc, mReset, mRead}
 use Rattle.dist_promises.proofs.Model.{Flight, away, came, caught, arrivedYet, asksFor, askedBy, State, says, model}
-use Rattle.dist_promises.proofs.Real.{Hidden, flightOf, goneIn, controllerOf, real, PhaseIs, Ground, Facts, Stands, moves}
+use Rattle.dist_promises.proofs.Real.{Hidden, flightOf, goneIn, controllerOf, PhaseIs, Ground, Stands, moves}
 use Rattle.dist_promises.proofs.Said.{report-messages}
 use Rattle.dist_promises.proofs.Sends.{sending, asks-same}
 use Rattle.dist_promises.proofs.SameFrame.{same-frame, same-reset, same-sender, same-receiver}
@@ -29,7 +30,7 @@ use Rattle.dist_promises.proofs.SameSubmit.{same-submit, says-submit}
 use Rattle.dist_promises.proofs.SameTake.{same-take, says-take}
 use Rattle.dist_promises.proofs.SameArrive.{same-arrive}
 use Rattle.dist_promises.proofs.SameTold.{same-done, same-no-reply, says-done, says-no-reply}
-use Rattle.dist_promises.proofs.Starts.{link, ground, is-configured, fresh-stands}
+use Rattle.dist_promises.proofs.Starts.{link, ground, room, fresh-stands}
 use Rattle.dist_promises.proofs.Promised.{keeps}
 
 flight-same : (link : Link) (n : ℕ) (f : Flight) → Bus.hasArrived (flightOf link n f) ≡ arrivedYet f
@@ -120,4 +121,22 @@ module _ (address mode subaddress largest window : ℕ) (store places hand : Lis
   holds =
       promise-alike ours (model (parts here places) largest window) alike largest
       (keeps largest (parts here places) (G .laws)
-      (link-ranges here (is-configured address mode subaddress largest window store places hand accepted) .most) window)
+      (link-ranges here (G .configured) .most) window)
+
+  -- mode 0 does not need "no message parts": it promises the same as a machine that says it has none
+  pub holds-with-parts : mode ≡ 0 → Promise largest (partless ours)
+  holds-with-parts zero =
+      promise-alike (partless ours) (model (unnumbered here places) largest window)
+      (record {
+        Same = Stands here places G;
+        fresh = fresh-stands address mode subaddress largest window store places hand accepted;
+        step = same here places G;
+        says = said here places G;
+        asks = asked here places G;
+        parts = λ x s i. refl;
+        count = counted here places G;
+      })
+      largest
+      (keeps largest (unnumbered here places)
+      (lawful-zero here places (G .configured) (room address mode subaddress largest window store places hand accepted) zero)
+      (link-ranges here (G .configured) .most) window)

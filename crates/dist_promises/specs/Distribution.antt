@@ -178,3 +178,8 @@ distribution address mode subaddress largest window store places hand =
       parts = λ x. partsOf (x .pair .terminal);
       count = λ x. messagesOf (reportOf (x .pair .controller));
     }
+
+-- the same machine, said to have no message parts: what it promises, it promises whatever parts there are
+abbrev pub partless : Machine → Machine
+partless M =
+    record { State = M .State; fresh = M .fresh; step = M .step; says = M .says; asks = M .asks; parts = λ x. 0; count = M .count }

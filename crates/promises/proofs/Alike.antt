@@ -1,31 +1,13 @@
 -- Two machines that answer alike at every event promise alike.
 -- Assumes nothing.
-use Prim.Native.Nat.{ℕ, zero, suc, min, _+_, _*_, _<_}
+use Prim.Native.Nat.{ℕ, min, _+_, _*_, _<_}
 use mathlib.Core.Path.{_≡_, refl, ap, subst, sym, _∙_}
 use mathlib.Core.Bool.{Bool, true, false}
 use mathlib.Core.List.{List, [], _∷_}
 use lib.ListN.{length, replicate}
-use Rattle.promises.specs.Run.{Block, Load, Event, submit, reset, deliver, Answer, denied, ok, accepted, confirmed, failed, gave, Asks, Machine, Ledger, begun, heard, new, noted, World, goes, run, after}
-use Rattle.promises.specs.Promise.{Kept, Turn, free, message, read, idle, barred, turn, pay, judged, Comes, isGiven, holding, Clear, Accepted, Confirmed, lastCount, messages, Promise}
-
-pub pay-map : (t : Turn) (h : Bool) (m f : ℕ) (K L : ℕ → ℕ → Type 0) → ((m f : ℕ) → K m f → L m f) → pay t h m f K → pay t h m f L
-pay-map free h m f K L g p = g m f p
-pay-map message h zero f K L g p = p
-pay-map message h (suc m) f K L g p = g m f p
-pay-map read true m f K L g p = tt
-pay-map read false zero f K L g p = p
-pay-map read false (suc m) f K L g p = g m f p
-pay-map idle h m zero K L g p = p
-pay-map idle h m (suc f) K L g p = g m f p
-pay-map barred h m f K L g p = tt
-
-pub judged-map : (a : Answer) (G H K L : Type 0) → (G → H) → (K → L) → judged a G K → judged a H L
-judged-map denied G H K L g k p = k p
-judged-map ok G H K L g k p = k p
-judged-map (gave b) G H K L g k p = k p
-judged-map accepted G H K L g k p = g p
-judged-map confirmed G H K L g k p = g p
-judged-map (failed f) G H K L g k p = g p
+use Rattle.promises.specs.Run.{Block, Load, Event, submit, reset, deliver, Answer, ok, Asks, Machine, Ledger, begun, heard, new, noted, World, goes, run, after}
+use Rattle.promises.specs.Promise.{Kept, turn, pay, judged, Comes, isGiven, holding, Clear, Accepted, Confirmed, lastCount, messages, Promise}
+use Rattle.promises.proofs.Rule.{pay-map, judged-map}
 
 -- a relation between the states of two machines that every event keeps
 pub record Alike (M N : Machine) : Type 1 where

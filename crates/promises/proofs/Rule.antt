@@ -22,13 +22,13 @@ pay-map idle h m zero K L g p = p
 pay-map idle h m (suc f) K L g p = g m f p
 pay-map barred h m f K L g p = tt
 
-judged-map : (a : Answer) (G K L : Type 0) → (K → L) → judged a G K → judged a G L
-judged-map denied G K L g p = g p
-judged-map ok G K L g p = g p
-judged-map (gave b) G K L g p = g p
-judged-map accepted G K L g p = p
-judged-map confirmed G K L g p = p
-judged-map (failed f) G K L g p = p
+pub judged-map : (a : Answer) (G H K L : Type 0) → (G → H) → (K → L) → judged a G K → judged a H L
+judged-map denied G H K L g k p = k p
+judged-map ok G H K L g k p = k p
+judged-map (gave b) G H K L g k p = k p
+judged-map accepted G H K L g k p = g p
+judged-map confirmed G H K L g k p = g p
+judged-map (failed f) G H K L g k p = g p
 
 module _ (M : Machine) (held : M .State → Bool) (Good : Answer → ℕ → World M → Type 0) where
   -- one event of a wait, with R for what is left of it
@@ -44,7 +44,8 @@ module _ (M : Machine) (held : M .State → Bool) (Good : Answer → ℕ → Wor
       pay-map (turn e (M .asks (w .state))) (held (w .state)) m f
       (λ m f. judged (M .says e (w .state)) (Good (M .says e (w .state)) m (goes M e w)) (Live m f (goes M e w)))
       (λ m f. judged (M .says e (w .state)) (Good (M .says e (w .state)) m (goes M e w)) (Comes M held Good m f es (goes M e w)))
-      (λ m f. judged-map (M .says e (w .state)) (Good (M .says e (w .state)) m (goes M e w)) (Live m f (goes M e w)) (Comes M held Good m f es (goes M e w)) (comes Live law es m f (goes M e w)))
+      (λ m f. judged-map (M .says e (w .state)) (Good (M .says e (w .state)) m (goes M e w)) (Good (M .says e (w .state)) m (goes M e w))
+      (Live m f (goes M e w)) (Comes M held Good m f es (goes M e w)) (λ g. g) (comes Live law es m f (goes M e w)))
       (law e m f w h)
 
 -- ---- what it means: a schedule in which all goes well, and with more useful events than were allowed, has heard the answer
