@@ -1,0 +1,12 @@
+pub mod Open
+pub mod Right
+pub mod Runs
+pub mod Refusing
+pub mod Silent
+pub mod MakingUp
+pub mod Alike
+pub mod Echoing
+pub mod Hasty
+pub mod Trusting
+pub mod GoingOn
+pub mod Starting255
