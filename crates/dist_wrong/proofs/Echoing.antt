@@ -1,17 +1,14 @@
 -- A machine that carries the first block and then only echoes counts breaks the promise.
 -- Assumes nothing.
-use Prim.Native.Nat.{ℕ, _+_}
-use mathlib.Core.Path.{_≡_, refl}
-use mathlib.Core.List.{List, [], _∷_, _++_}
-use native.Mathlib.Omega.{arith}
-use lib.ListN.{replicate}
-use Rattle.promises.specs.Run.{Event, submit, reset, frame, arrive, toldDone, toldNoReply, restartReceiver, deliver}
+use mathlib.Core.List.{_++_}
 use Rattle.promises.specs.Promise.{Promise}
-use Rattle.promises.proofs.Convict.{convict, not-ok}
-use Rattle.dist_wrong.proofs.Open.{opened}
-use Rattle.dist_wrong.proofs.Runs.{sure, byte, done, read, sync, takes, whole, times}
+use Rattle.dist_wrong.specs.Made.{inMode0}
 use Rattle.dist_wrong.specs.Machines.{echoing}
+use Rattle.dist_wrong.proofs.Open.{opened}
+use Rattle.dist_wrong.proofs.Fresh.{convict-in-0}
+use Rattle.dist_wrong.proofs.Runs.{byte, sync, whole}
 
-pub breaks : Promise 1024 echoing → ⊥
+-- the second block is confirmed and never delivered
+pub breaks : Promise 1024 (inMode0 echoing) → ⊥
 unfolding opened
-breaks = convict 1024 echoing (sync ++ whole (byte 1 tt) ++ whole (byte 2 tt))
+breaks = convict-in-0 echoing (sync ++ whole (byte 1 tt) ++ whole (byte 2 tt))

@@ -1,17 +1,15 @@
 -- A machine whose terminal confirms a block before it is taken breaks the promise.
 -- Assumes nothing.
-use Prim.Native.Nat.{ℕ, _+_}
-use mathlib.Core.Path.{_≡_, refl}
-use mathlib.Core.List.{List, [], _∷_, _++_}
-use native.Mathlib.Omega.{arith}
-use lib.ListN.{replicate}
-use Rattle.promises.specs.Run.{Event, submit, reset, frame, arrive, toldDone, toldNoReply, restartReceiver, deliver}
+use mathlib.Core.List.{_∷_, _++_}
+use Rattle.promises.specs.Run.{submit}
 use Rattle.promises.specs.Promise.{Promise}
-use Rattle.promises.proofs.Convict.{convict, not-ok}
-use Rattle.dist_wrong.proofs.Open.{opened}
-use Rattle.dist_wrong.proofs.Runs.{sure, byte, done, read, sync, takes, whole, times}
+use Rattle.dist_wrong.specs.Made.{inMode0}
 use Rattle.dist_wrong.specs.Machines.{hasty}
+use Rattle.dist_wrong.proofs.Open.{opened}
+use Rattle.dist_wrong.proofs.Fresh.{convict-in-0}
+use Rattle.dist_wrong.proofs.Runs.{byte, done, read, sync}
 
-pub breaks : Promise 1024 hasty → ⊥
+-- confirmed, with no take
+pub breaks : Promise 1024 (inMode0 hasty) → ⊥
 unfolding opened
-breaks = convict 1024 hasty (sync ++ (submit (byte 1 tt) ∷ done) ++ done ++ read)
+breaks = convict-in-0 hasty (sync ++ (submit (byte 1 tt) ∷ done) ++ done ++ read)

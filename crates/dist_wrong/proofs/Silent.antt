@@ -1,17 +1,14 @@
 -- A machine that asks for no message breaks the promise.
 -- Assumes nothing.
-use Prim.Native.Nat.{ℕ, _+_}
-use mathlib.Core.Path.{_≡_, refl}
-use mathlib.Core.List.{List, [], _∷_, _++_}
-use native.Mathlib.Omega.{arith}
-use lib.ListN.{replicate}
-use Rattle.promises.specs.Run.{Event, submit, reset, frame, arrive, toldDone, toldNoReply, restartReceiver, deliver}
+use mathlib.Core.List.{[], _∷_}
+use Rattle.promises.specs.Run.{frame}
 use Rattle.promises.specs.Promise.{Promise}
-use Rattle.promises.proofs.Convict.{convict, not-ok}
-use Rattle.dist_wrong.proofs.Open.{opened}
-use Rattle.dist_wrong.proofs.Runs.{sure, byte, done, read, sync, takes, whole, times}
+use Rattle.dist_wrong.specs.Made.{inMode0}
 use Rattle.dist_wrong.specs.Machines.{silent}
+use Rattle.dist_wrong.proofs.Open.{opened}
+use Rattle.dist_wrong.proofs.Fresh.{plain-in-0}
 
-pub breaks : Promise 1024 silent → ⊥
+-- no Reset is accepted, however many frames go by
+pub breaks : Promise 1024 (inMode0 silent) → ⊥
 unfolding opened
-breaks p = p .accepts [] (frame ∷ frame ∷ frame ∷ [])
+breaks p = plain-in-0 silent p .accepts [] (frame ∷ frame ∷ frame ∷ [])

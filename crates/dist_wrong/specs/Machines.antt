@@ -1,4 +1,4 @@
--- Wrong machines: each is distribution with one thing changed.
+-- Wrong machines: each has the real calls of both ends, but one thing is changed.
 -- Assumes nothing.
 use Prim.Native.Nat.{ℕ, zero, suc, _+_}
 use mathlib.Core.Bool.{Bool, true, false, cond, not}
@@ -38,17 +38,14 @@ use Rattle.dist_terminal.specs.declared.state.Terminal.{Terminal}
 use Rattle.dist_terminal.specs.declared.state.Stepped.{Stepped}
 use Rattle.dist_terminal.specs.declared.descriptor.Judged.{Judged}
 use Rattle.dist_terminal.specs.declared.descriptor.Judged.the-variants.{NoReset, Again, HandFull, WrongLength, Good}
-use Rattle.promises.specs.Run.{Machine}
-use Rattle.dist_promises.specs.Distribution.{Ends}
-use Rattle.dist_wrong.specs.Made.{real, made, mode0, mode1}
+use Rattle.dist_wrong.specs.Made.{Ways, real}
 
 -- ---- the controller
 
 -- the real ends, but for: answers to submissions, the transfer started, the message asked for, the outcome as it is heard, the report
 abbrev pub controlled : (Controller → ℕ → ℕ → Answer) → (Quality → ℕ → Controller → Controller) → (Controller → Asked)
-    → (Controller → Outcome → Outcome) → (Controller → Reported) → Machine
+    → (Controller → Outcome → Outcome) → (Controller → Reported) → Ways
 controlled admits starts asks hears reports =
-    made
     record {
       admits = admits;
       starts = starts;
@@ -58,17 +55,16 @@ controlled admits starts asks hears reports =
       receives = real .receives;
       hands = real .hands;
     }
-    (mode0 .fresh)
 
 abbrev pub asTold : Controller → Outcome → Outcome
 asTold c outcome = outcome
 
 -- refuses every submission
-abbrev pub refusing : Machine
+abbrev pub refusing : Ways
 refusing = controlled (λ c size store. Refused 5) (real .starts) (real .asks) asTold (real .reports)
 
 -- asks for no message
-abbrev pub silent : Machine
+abbrev pub silent : Ways
 silent = controlled (real .admits) (real .starts) (λ c. Nothing) asTold (real .reports)
 
 abbrev pub counting : ℕ → Reported → Reported
@@ -76,11 +72,11 @@ counting n (Reported.Refused m) = Reported.Refused m
 counting n (Reported.Report r) = Reported.Report (record { fate = r .fate; messages = n; found = r .found; acceptance = r .acceptance })
 
 -- says that each transfer took four messages
-abbrev pub makingUp : Machine
+abbrev pub makingUp : Ways
 makingUp = controlled (real .admits) (real .starts) (real .asks) asTold (λ c. counting 4 (reportOf c))
 
 -- works its message count out from the block's size: right whenever all goes well
-abbrev pub estimating : Machine
+abbrev pub estimating : Ways
 estimating =
     controlled (real .admits) (real .starts) (real .asks) asTold (λ c. counting (messagesOf (c .transfer .size) + 2) (reportOf c))
 
@@ -97,7 +93,7 @@ resetDone CutReading outcome = outcome
 resetDone CutResetting outcome = outcome
 
 -- waits for 27T to show reset, and trusts it, though its Reset descriptor was lost
-abbrev pub trusting : Machine
+abbrev pub trusting : Ways
 trusting = controlled (real .admits) (real .starts) (real .asks) (λ c outcome. resetDone (c .phase) outcome) (real .reports)
 
 abbrev pub dataDone : Phase → Outcome → Outcome
@@ -113,7 +109,7 @@ dataDone CutReading outcome = outcome
 dataDone CutResetting outcome = outcome
 
 -- goes on to the descriptor after a data message that failed, with Verified Length too
-abbrev pub goingOn : Machine
+abbrev pub goingOn : Ways
 goingOn = controlled (real .admits) (real .starts) (real .asks) (λ c outcome. dataDone (c .phase) outcome) (real .reports)
 
 -- a submission's answer, and the transfer started, with another limit than 254 of started transfers
@@ -137,7 +133,7 @@ startsTo limit quality size c =
     c)
 
 -- starts up to 255 transfers
-abbrev pub starting255 : Machine
+abbrev pub starting255 : Ways
 starting255 = controlled (admitsTo 255) (startsTo 255) (real .asks) asTold (real .reports)
 
 -- ---- the terminal
@@ -174,9 +170,8 @@ handsBy block t subaddress words store hand =
     hand)
 
 -- the real ends, but for what a descriptor of a block does
-abbrev pub received : Step → Held → Ends → Machine
-received step held fresh =
-    made
+abbrev pub received : Step → Held → Ways
+received step held =
     record {
       admits = real .admits;
       starts = real .starts;
@@ -186,27 +181,25 @@ received step held fresh =
       receives = receivesBy step;
       hands = handsBy held;
     }
-    fresh
 
 -- the real ends, but for how a descriptor of a block is judged
-abbrev pub judging : (Terminal → ℕ → Quality → DistributionCount → Judged) → Ends → Machine
-judging judged fresh =
+abbrev pub judging : (Terminal → ℕ → Quality → DistributionCount → Judged) → Ways
+judging judged =
     received
     (λ t size quality count. blockStep (judged t size quality count) t size count)
     (λ t size quality count store hand. blockHand (judged t size quality count) t size store hand)
-    fresh
 
 -- takes every descriptor for a good one
-abbrev pub accepting : Machine
-accepting = judging (λ t size quality count. Good) (mode0 .fresh)
+abbrev pub accepting : Ways
+accepting = judging (λ t size quality count. Good)
 
 -- takes every descriptor for one it had before
-abbrev pub declining : Machine
-declining = judging (λ t size quality count. Again) (mode0 .fresh)
+abbrev pub declining : Ways
+declining = judging (λ t size quality count. Again)
 
--- judges a Verified Length block as if it were Best Effort, in mode 1
-abbrev pub unverifying : Machine
-unverifying = judging (λ t size quality count. judgedOf t size BestEffort count) (mode1 .fresh)
+-- judges a Verified Length block as if it were Best Effort
+abbrev pub unverifying : Ways
+unverifying = judging (λ t size quality count. judgedOf t size BestEffort count)
 
 -- no block is held, and 27T shows the count at once
 abbrev pub echoed : ℕ → DistributionCount → Terminal → Terminal
@@ -221,12 +214,11 @@ echoHand zero t size quality count store hand = blockHand (judgedOf t size quali
 echoHand (suc n) t size quality count store hand = hand
 
 -- takes the first block after a Reset, and then only echoes each descriptor's count in 27T
-abbrev pub echoing : Machine
+abbrev pub echoing : Ways
 echoing =
     received
     (λ t size quality count. echoStep (t .handled .0) t size quality count)
     (λ t size quality count store hand. echoHand (t .handled .0) t size quality count store hand)
-    (mode0 .fresh)
 
 abbrev pub shows : Judged → Terminal → ℕ → DistributionCount → Stepped
 shows NoReset t size count = blockStep NoReset t size count
@@ -237,9 +229,8 @@ shows Good t size count =
     accept (withHand count (Holding size count) (distributionConfirmationWords (t .link) size false count) (clearedOf t))
 
 -- writes 27T when it accepts a block, not when the block is taken
-abbrev pub hasty : Machine
+abbrev pub hasty : Ways
 hasty =
     received
     (λ t size quality count. shows (judgedOf t size quality count) t size count)
     (λ t size quality count store hand. blockHand (judgedOf t size quality count) t size store hand)
-    (mode0 .fresh)

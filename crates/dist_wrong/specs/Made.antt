@@ -33,7 +33,7 @@ use Rattle.dist_pair.specs.declared.state.Pair.{Pair}
 use Rattle.dist_pair.specs.declared.state.Stepped.{Stepped}
 use Rattle.promises.specs.Run as Run
 use Rattle.promises.specs.Run.{Event, submit, reset, frame, arrive, toldDone, toldNoReply, restartSender, restartReceiver, deliver, Machine}
-use Rattle.dist_promises.specs.Distribution.{Ends, steppedOf, storeOf, placesOf, handOf, saysOf, answerOf, askingOf, messagesOf, distribution}
+use Rattle.dist_promises.specs.Distribution.{Ends, steppedOf, storeOf, placesOf, handOf, saysOf, answerOf, askingOf, messagesOf, partsOf, distribution}
 
 pub record Ways : Type 0 where
   -- the controller: a submission's answer; the transfer started; the message asked for; an outcome told; the report
@@ -156,14 +156,7 @@ module _ (w : Ways) where
   says restartSender x = called restartSender x
   says restartReceiver x = called restartReceiver x
 
--- distribution at the least lengths of the stores, window 2, and subaddress 11: in mode 0, or in mode 1 with blocks up to 1024
-abbrev pub mode0 : Machine
-mode0 = distribution 5 0 11 1024 2 (replicate 1024 0) (replicate 1024 0) (replicate 1024 0)
-
-abbrev pub mode1 : Machine
-mode1 = distribution 5 1 11 1024 2 (replicate 1024 0) (replicate 4096 0) (replicate 1024 0)
-
--- both ends fresh as they are in another machine, with these calls
+-- both ends with these calls, from here on
 abbrev pub made : Ways → Ends → Machine
 made w fresh =
     record {
@@ -172,6 +165,19 @@ made w fresh =
       step = λ e x. record { pair = stepped w e x .pair; store = store w e x; places = places w e x; hand = hand w e x };
       says = says w;
       asks = λ x. askingOf (w .asks (x .pair .controller)) (hasArrived (x .pair .flight));
-      parts = mode0 .parts;
+      parts = λ x. partsOf (x .pair .terminal);
       count = λ x. messagesOf (w .reports (x .pair .controller));
     }
+
+-- at address 5 and subaddress 11, for blocks up to 1024 bytes, with a window of 2 and the shortest stores: both ends fresh
+abbrev pub fresh0 : Ends
+fresh0 = distribution 5 0 11 1024 2 (replicate 1024 0) (replicate 1024 0) (replicate 1024 0) .fresh
+
+abbrev pub fresh1 : Ends
+fresh1 = distribution 5 1 11 1024 2 (replicate 1024 0) (replicate 4096 0) (replicate 1024 0) .fresh
+
+abbrev pub inMode0 : Ways → Machine
+inMode0 w = made w fresh0
+
+abbrev pub inMode1 : Ways → Machine
+inMode1 w = made w fresh1
