@@ -1,7 +1,7 @@
 -- A machine whose terminal answers every descriptor alike breaks the promise.
 -- Assumes nothing.
 use mathlib.Core.Path.{_≡_, refl, subst, sym}
-use mathlib.Core.List.{[], _∷_, _++_}
+use mathlib.Core.List.{_∷_, _++_}
 use Rattle.promises.specs.Run.{submit, restartReceiver, Answer, denied, ok, accepted, confirmed, failed, gave}
 use Rattle.promises.specs.Promise.{Promise}
 use Rattle.dist_wrong.specs.Made.{inMode0}

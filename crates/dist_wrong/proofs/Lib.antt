@@ -1,6 +1,7 @@
 pub mod Open
 pub mod Fresh
 pub mod Right
+pub mod Real
 pub mod Runs
 pub mod Refusing
 pub mod Silent
@@ -12,4 +13,3 @@ pub mod Hasty
 pub mod Trusting
 pub mod GoingOn
 pub mod Starting255
-pub mod Real

@@ -46,7 +46,7 @@ unfolding Copying.storedOf Copying.copiedOf Copying.zerosOf Writing.writtenOf Ma
 stores = tt
 
 unfoldable pub asking : Unit {0}
-unfolding Asked.transferMessage Asked.lastOf Asked.askedOf Message.transferWordsAt Message.wordsAsked State.countedOf Report.acceptanceOf Report.reportOf
+unfolding Asked.transferMessage Asked.messagesAsked Asked.messageList Asked.lastOf Asked.askedOf Message.transferWordsAt Message.wordsAsked State.countedOf Report.acceptanceOf Report.reportOf
 asking = tt
 
 unfoldable pub submitting : Unit {0}

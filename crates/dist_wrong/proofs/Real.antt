@@ -14,8 +14,8 @@ use Rattle.dist_terminal.specs.State.{refuse}
 use Rattle.dist_terminal.specs.Data.{dataOf}
 use Rattle.dist_terminal.specs.Descriptor.{short, judgedOf, blockStep, blockHand, descriptorIn, handIn}
 use Rattle.dist_terminal.specs.declared.state.Terminal.{Terminal}
-use Rattle.dist_wrong.specs.Made.{Ways, real}
-use Rattle.dist_wrong.specs.Machines.{controlled, asTold, admitsTo, startsTo, Step, Held, stepBy, handBy, received, judging}
+use Rattle.dist_wrong.specs.Made.{real}
+use Rattle.dist_wrong.specs.Machines.{controlled, asTold, admitsTo, startsTo, Step, Held, stepBy, handBy, judging}
 use Rattle.dist_wrong.proofs.Open.{opened}
 
 pub controller-real : controlled (admitsTo limit) (startsTo limit) (real .asks) asTold (real .reports) ≡ real

@@ -23,8 +23,7 @@ use Rattle.dist_pair.specs.Bus.{lentShort, hasArrived}
 use Rattle.dist_pair.specs.declared.state.Flight.{Flight}
 use Rattle.dist_pair.specs.declared.state.Flight.the-variants.{NotArrived, Arrived, Caught}
 use Rattle.dist_pair.specs.declared.state.Pair.{Pair}
-use Rattle.promises.specs.Run as Run
-use Rattle.promises.specs.Run.{Event, submit, reset, frame, arrive, toldDone, toldNoReply, restartSender, restartReceiver, deliver, Machine}
+use Rattle.promises.specs.Run.{Event, submit, reset, frame, arrive, toldDone, toldNoReply, restartSender, restartReceiver, deliver}
 use Rattle.dist_promises.specs.Distribution.{Ends, steppedOf, storeOf, placesOf, handOf, saysOf, calledOf, askingOf, answerOf, partsOf, messagesOf, distribution}
 use Rattle.dist_wrong.specs.Made.{real, made, submitIn, arriveIn, handIn, doneIn, stepped, store, places, hand, called, says}
 use Rattle.dist_wrong.proofs.Open.{opened}

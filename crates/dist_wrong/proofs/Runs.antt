@@ -5,7 +5,7 @@ use mathlib.Core.Bool.{true}
 use mathlib.Core.List.{List, [], _∷_, _++_}
 use lib.Dec.{T}
 use lib.ListN.{replicate}
-use Rattle.promises.specs.Run.{Block, areBytes, Load, Event, submit, reset, frame, arrive, toldDone, toldNoReply, deliver}
+use Rattle.promises.specs.Run.{Block, areBytes, Load, Event, submit, reset, frame, arrive, toldDone, deliver}
 
 -- a block with Verified Length
 abbrev pub sure : (b : Block) → T (areBytes b) → Load

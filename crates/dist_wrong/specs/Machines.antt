@@ -1,7 +1,7 @@
 -- Wrong machines: each has the real calls of both ends, but one thing is changed.
 -- Assumes nothing.
 use Prim.Native.Nat.{ℕ, zero, suc, _+_}
-use mathlib.Core.Bool.{Bool, true, false, cond, not}
+use mathlib.Core.Bool.{false, cond, not}
 use mathlib.Core.List.{List}
 use lib.Dec.{eqb, leb}
 use lib.ListN.{length}
@@ -209,16 +209,12 @@ abbrev pub echoStep : ℕ → Step
 echoStep zero t size quality count = blockStep (judgedOf t size quality count) t size count
 echoStep (suc n) t size quality count = accept (echoed size count t)
 
-abbrev pub echoHand : ℕ → Held
-echoHand zero t size quality count store hand = blockHand (judgedOf t size quality count) t size store hand
-echoHand (suc n) t size quality count store hand = hand
-
 -- takes the first block after a Reset, and then only echoes each descriptor's count in 27T
 abbrev pub echoing : Ways
 echoing =
     received
     (λ t size quality count. echoStep (t .handled .0) t size quality count)
-    (λ t size quality count store hand. echoHand (t .handled .0) t size quality count store hand)
+    (λ t size quality count store hand. blockHand (judgedOf t size quality count) t size store hand)
 
 abbrev pub shows : Judged → Terminal → ℕ → DistributionCount → Stepped
 shows NoReset t size count = blockStep NoReset t size count

@@ -35,6 +35,7 @@ use Rattle.promises.specs.Run as Run
 use Rattle.promises.specs.Run.{Event, submit, reset, frame, arrive, toldDone, toldNoReply, restartSender, restartReceiver, deliver, Machine}
 use Rattle.dist_promises.specs.Distribution.{Ends, steppedOf, storeOf, placesOf, handOf, saysOf, answerOf, askingOf, messagesOf, partsOf, distribution}
 
+-- the calls that a wrong machine may have otherwise
 pub record Ways : Type 0 where
   -- the controller: a submission's answer; the transfer started; the message asked for; an outcome told; the report
   pub admits : Controller → ℕ → ℕ → Answer
