@@ -13,3 +13,4 @@ pub mod Hasty
 pub mod Trusting
 pub mod GoingOn
 pub mod Starting255
+pub mod Keeps
