@@ -1,7 +1,8 @@
 #!/bin/bash
 # The program blockrun is held to the reference tests/blockrun.py, which was written from document 01 alone.
-# First the stored tests, tests/blockrun/NAME.in and .out (made by tests/blockrun_cases.py, and looked at for being what it
-# makes now); then what is made anew each time: inputs that end in odd ways, long scenarios, and two seeds of random lines.
+# First the stored tests, tests/blockrun/NAME.in and .out, or with .gz behind (made by tests/blockrun_cases.py, and looked at for
+# being what it makes now; it also holds the reference to lines worked out by arithmetic). Then what is made anew each time: inputs
+# that end in odd ways, long scenarios, and two seeds of random lines.
 # BLOCKRUN is the command that runs the program, else target/bin/blockrun is run as ./run does, without building it.
 # SEEDS and RANDOM_LINES (how many) say which random lines are tried.
 # At a difference the first line that differs is shown; the exit status is 0 only if all agree.
@@ -84,19 +85,32 @@ made() {
     try "$1" "$work/in" "$work/wanted"
 }
 
+# text FILE: what the file says, unpacked where it is compressed.
+text() {
+    case $1 in
+    *.gz) gzip -dc "$1" ;;
+    *) cat "$1" ;;
+    esac
+}
+
 python3 tests/blockrun_cases.py --check >/dev/null || failed=$((failed + 1))
 stored=0
-for input in tests/blockrun/*.in; do
-    name=${input%.in}
+for input in tests/blockrun/*.in tests/blockrun/*.in.gz; do
+    output=${input/.in/.out}
     stored=$((stored + 1))
-    if ! python3 tests/blockrun.py <"$input" >"$work/wanted" || ! cmp -s "$work/wanted" "$name.out"; then
-        differs "$name.out against the reference" "$input" "$work/wanted" "$name.out"
+    if ! text "$input" >"$work/in" || ! text "$output" >"$work/out"; then
+        failed=$((failed + 1))
+        echo "$input: it or its output could not be read"
+        continue
     fi
-    try "$input" "$input" "$name.out"
+    if ! python3 tests/blockrun.py <"$work/in" >"$work/wanted" || ! cmp -s "$work/wanted" "$work/out"; then
+        differs "$output against the reference" "$work/in" "$work/wanted" "$work/out"
+    fi
+    try "$input" "$work/in" "$work/out"
 done
-if [ $stored -ne 10 ]; then
+if [ $stored -ne 11 ]; then
     failed=$((failed + 1))
-    echo "blockrun.sh: $stored stored tests, where 10 are known"
+    echo "blockrun.sh: $stored stored tests, where 11 are known"
 fi
 
 link='link\t5\t0\t11\t1024\t2'

@@ -2,7 +2,7 @@
 """Inputs of blockrun that are made for each test and not stored, written to standard output.
 
     python3 tests/blockrun_random.py SEED N   N random lines, the same for the same seed
-    python3 tests/blockrun_random.py NAME     a long scenario: tick, late, sizes, counts, pile, lines
+    python3 tests/blockrun_random.py NAME     a long scenario: late, sizes, pile, lines
     python3 tests/blockrun_random.py --list   the names
 
 Program and reference (tests/blockrun.py) are compared over them. The long scenarios carry answers worked out by hand, as the
@@ -180,39 +180,6 @@ def named(function):
 
 
 @named
-def tick(c):
-    """65,700 frames: a transfer and a Reset on either side of the tick's 65535."""
-    c.link(6, 0, 11, 1024, 4)
-    c.reset()  # two frames: the tick is 2
-    c.good("v", b"first", 1)  # two more
-    c.frame(65533 - 4)
-    c.idle()
-    c.out("v", b"round", 2)  # told at tick 65533
-    c.frame()  # 65534
-    c.idle()
-    c.frame()  # 65535, age 2
-    c.bus("d", "ok T27 other")
-    c.frame()  # 0, age 3
-    c.bus("d", "ok T27 other")
-    c.idle()
-    c.frame()  # 1, age 4: still W, and the take comes in time
-    c.take(b"round")
-    c.bus("d", "ok T27 confirmed")
-    c.good("b", b"after", 3)
-    c.frame(100)
-    c.idle()
-    c.out("v", b"never taken", 4)
-    c.frame()
-    for _ in range(3):
-        c.frame()
-        c.bus("d", "ok T27 other")
-    c.idle()
-    c.reset()
-    c.frame(60)
-    c.idle()
-
-
-@named
 def late(c):
     """Ages on the circle: a read left out for 65536 frames is told at an age of 0; so with a Reset's; then W counts again."""
     c.link(6, 1, 15, 1024, 3)
@@ -272,25 +239,6 @@ def sizes(c):
         for n in [n for n in (1025, 2048, 4095, 4096, 4097) if n > link[3]]:
             c.send("v", block(n, 1), "no 3")
             c.send("b", block(n, 1), "no 3")
-
-
-@named
-def counts(c):
-    """300 confirmed transfers, the count twice round with abandoned ones between, in both modes."""
-    for link in [(8, 0, 11, 1024, 2), (8, 1, 21, 1024, 2)]:
-        c.link(*link)
-        c.reset()
-        count = 0
-        for i in range(300):
-            count = count % 255 + 1
-            c.good("vb"[i % 2], block(1 + i % 5, i), count)
-        for i in range(300):
-            count = count % 255 + 1
-            if i % 3:
-                c.send("v", b"Z")
-                c.bus("n", "ok R%d 5A00" % link[2])
-            else:
-                c.good("v", block(3, i), count)
 
 
 @named

@@ -23,6 +23,8 @@ class Case:
     def __init__(self, name):
         self.name, self.lines, self.wants, self.scenarios = name, [], [], 0
         self.ending = b"\n"  # of the last line
+        self.packed = False  # stored compressed
+        self.keys = []
 
     def raw(self, line, want=None):
         self.lines.append(line)
@@ -97,6 +99,17 @@ class Case:
         self.idle()
         self.take(None)
 
+    def short(self, quality, count, data, age=2):
+        """A transfer, taken and confirmed at that age; with one data message and age 2 it has seven lines."""
+        self.out(quality, data, count)
+        self.take(data)
+        self.frame(age)
+        self.bus("d", "ok T27 confirmed")
+
+    def key(self, number, line, answer):
+        """A line of the file worked out by arithmetic, with its number, apart from the calls that write the lines."""
+        self.keys.append((number, line, answer))
+
 
 def written(made):
     text = b"\n".join(made.lines) + made.ending
@@ -110,4 +123,9 @@ def written(made):
             wanted = "%d\t%s" % (at + 1, want.replace(" ", "\t"))
             if answer != wanted:
                 sys.exit("%s line %d, %r:\n  by hand  %s\n  answered %s" % (made.name, at + 1, line[:80], wanted[:200], answer[:200]))
+    for number, line, answer in made.keys:
+        wanted = ("%s\n%d %s" % (line, number, answer)).replace(" ", "\t")
+        found = "%s\n%s" % (made.lines[number - 1].decode(), got[number - 1])
+        if found != wanted:
+            sys.exit("%s line %d:\n  wanted %r\n  found  %r" % (made.name, number, wanted, found))
     return text, out, by_hand

@@ -1,0 +1,16 @@
+pub mod Open
+pub mod Fresh
+pub mod Right
+pub mod Real
+pub mod Runs
+pub mod Refusing
+pub mod Silent
+pub mod MakingUp
+pub mod Alike
+pub mod Unverifying
+pub mod Echoing
+pub mod Hasty
+pub mod Trusting
+pub mod GoingOn
+pub mod Starting255
+pub mod Keeps

@@ -1,0 +1,4 @@
+pub mod Convict
+pub mod Rule
+pub mod Deliveries
+pub mod Alike
