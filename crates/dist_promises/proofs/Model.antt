@@ -1,4 +1,4 @@
--- Distribution without words and numbers: the two ends as the proof sees them. Module Alike shows that the pair's steps are these.
+-- Distribution without words and numbers: the two ends as the proof sees them. Theorem.antt shows that the pair's steps are these.
 -- Assumes nothing.
 use Prim.Native.Nat.{ℕ, suc, _+_, _-_, _%_}
 use mathlib.Core.Bool.{Bool, true, false, cond, _&&_}

@@ -1,4 +1,4 @@
--- What the proof asks of a terminal's message parts; both modes have it (module Modes). Message j of a block is its bytes from 64 * j on.
+-- What the proof asks of a terminal's message parts; both modes have it (Lawfully.antt). Message j of a block is its bytes from 64 * j on.
 -- Assumes nothing.
 use Prim.Native.Nat.{ℕ, suc, _*_, _≤_, _<_}
 use mathlib.Core.Path.{_≡_}

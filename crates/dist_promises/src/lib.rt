@@ -1,1 +1,1 @@
-// Demand 3 for distribution: the promise (crate promises) of the pair's own steps. Statement: specs/Distribution.antt; theorem: proofs/Holds.antt.
+// Demand 3 for distribution: the promise (crate promises) of the pair's own steps. Statement: specs/Distribution.antt; theorem: proofs/Theorem.antt.
