@@ -1,4 +1,6 @@
 // blockrun: both ends of one distribution link, driven by tab-parted lines on standard input (document 01, "Pairs at the edges").
+#![tactic(auto)]
+
 mod turns;
 
 fn main() {

@@ -7,7 +7,7 @@ use dist_pair::state::Pair;
 use libc::{STDIN_FILENO, STDOUT_FILENO};
 
 // The link, the number of the last line, and how many bytes of answers wait in the output buffer.
-#[derive(Drop)]
+#[derive(Clone, Copy)]
 struct Run {
     pair: Pair,
     number: u64,
@@ -15,7 +15,7 @@ struct Run {
 }
 
 // `have` bytes of an unfinished line stand in the buffer; `long`: its start was passed over.
-#[derive(Drop)]
+#[derive(Clone, Copy)]
 struct Held {
     run: Run,
     have: usize,

@@ -20,7 +20,7 @@ use dist_terminal::take::Take;
 use words::control::Quality;
 
 // The link after a line, and the place behind its answer.
-#[derive(Drop)]
+#[derive(Clone, Copy)]
 pub struct Answered {
     pub pair: Pair,
     pub at: usize,
@@ -38,6 +38,7 @@ pub fn stepped(s: Stepped, number: u64, out: &mut [u8], at: usize) -> Answered
 }
 
 // `take`: the bytes, by way of the lent room.
+#[tactic(auto, unfolding(crate::specs::Answers::take_line, crate::specs::Answers::take_line_text))]
 pub fn take_line(
     p: Pair,
     number: u64,
@@ -67,6 +68,7 @@ pub fn take_line(
 }
 
 // `send`: the block of a hex field, by way of the lent room.
+#[tactic(auto, unfolding(blockrun_text::specs::Hex::block_size_of, crate::specs::Answers::send_line, crate::specs::Answers::send_block))]
 pub fn send_line(
     p: Pair,
     quality: Quality,
@@ -85,6 +87,7 @@ pub fn send_line(
 }
 
 // What the last read of 27T found.
+#[tactic(auto, unfolding(crate::specs::Answers::found_of))]
 pub fn found_of(p: Pair) -> Finding
     ensures { result ≡ found_of p }
 {
@@ -116,7 +119,7 @@ pub fn reply_lost(p: Pair, store: &[u8], places: &mut [u8], hand: &mut [u8]) -> 
 }
 
 // How a message fares on the bus.
-#[derive(Drop)]
+#[derive(Clone, Copy)]
 pub enum Way {
     Done,
     ReplyLost,
@@ -164,6 +167,7 @@ fn put_message(
 }
 
 // `bus`: the message asked for fares so on the bus.
+#[tactic(auto, unfolding(crate::specs::Answers::bus_pair, crate::specs::Answers::bus_text, crate::specs::Answers::bus_places, crate::specs::Answers::bus_hand))]
 pub fn bus_line(
     p: Pair,
     way: Way,

@@ -36,6 +36,7 @@ pub fn frame_line(p: Pair, number: u64, out: &mut [u8], at: usize) -> Answered
 }
 
 // The form is tested before the link.
+#[tactic(auto, unfolding(crate::specs::Answers::take_line))]
 pub fn answer_line(
     p: Pair,
     number: u64,

@@ -9,6 +9,7 @@ use dist_controller::state::Finding;
 use words::answer::Answer;
 
 // The line's number and a tab.
+#[tactic(auto, unfolding(crate::specs::Lines::start_text))]
 fn put_start(out: &mut [u8], at: usize, number: u64) -> usize
     ensures { (result ≡ behind (length out.old) at (length (start_text number)))
         × (out.new ≡ sets out.old at (start_text number)) }
@@ -18,6 +19,7 @@ fn put_start(out: &mut [u8], at: usize, number: u64) -> usize
 }
 
 // What follows the number is put four bytes at once.
+#[tactic(auto, unfolding(crate::specs::Lines::ok_text, crate::specs::Lines::start_text))]
 pub fn put_ok(out: &mut [u8], at: usize, number: u64) -> usize
     ensures { (result ≡ behind (length out.old) at (length (ok_text number)))
         × (out.new ≡ sets out.old at (ok_text number)) }
@@ -26,6 +28,7 @@ pub fn put_ok(out: &mut [u8], at: usize, number: u64) -> usize
     put_four(out, next, b'\t', b'o', b'k', b'\n')
 }
 
+#[tactic(auto, unfolding(crate::specs::Lines::no_text, crate::specs::Lines::start_text))]
 pub fn put_no(out: &mut [u8], at: usize, number: u64, refusal: u8) -> usize
     ensures { (result ≡ behind (length out.old) at (length (no_text number refusal)))
         × (out.new ≡ sets out.old at (no_text number refusal)) }
@@ -47,6 +50,7 @@ pub fn put_answer(out: &mut [u8], at: usize, number: u64, answer: Answer) -> usi
 }
 
 // A block that was taken, in hex.
+#[tactic(auto, unfolding(crate::specs::Lines::take_text))]
 pub fn put_taken(out: &mut [u8], at: usize, number: u64, block: &[u8]) -> usize
     ensures { (result ≡ behind (length out.old) at (length (take_text number block.now)))
         × (out.new ≡ sets out.old at (take_text number block.now)) }
@@ -58,6 +62,7 @@ pub fn put_taken(out: &mut [u8], at: usize, number: u64, block: &[u8]) -> usize
 }
 
 // A message to the terminal: R, the subaddress and the words sent.
+#[tactic(auto, unfolding(crate::specs::Lines::sent_text))]
 pub fn put_sent(out: &mut [u8], at: usize, number: u64, subaddress: u8, words: &[u16]) -> usize
     ensures { (result ≡ behind (length out.old) at (length (sent_text number subaddress words.now)))
         × (out.new ≡ sets out.old at (sent_text number subaddress words.now)) }
@@ -84,6 +89,7 @@ fn put_finding(out: &mut [u8], at: usize, found: Finding) -> usize
 }
 
 // A read of 27T: T27 and what it found.
+#[tactic(auto, unfolding(crate::specs::Lines::found_text))]
 pub fn put_found(out: &mut [u8], at: usize, number: u64, found: Finding) -> usize
     ensures { (result ≡ behind (length out.old) at (length (found_text number found)))
         × (out.new ≡ sets out.old at (found_text number found)) }

@@ -3,6 +3,7 @@ ghost use Rattle.std.specs.Prelude.{◌≡◌, ◌+◌, ◌*◌, drop};
 ghost use Rattle.blockrun_text.specs.Hex.{is_digit, all_digits, digit_value_of, digit_of};
 
 // 0 to 9 and A to F.
+#[tactic(auto, unfolding(crate::specs::Hex::is_digit))]
 pub fn is_digit(byte: u8) -> bool
     ensures { result ≡ is_digit byte }
 {
@@ -33,6 +34,7 @@ pub fn all_digits(line: &[u8], from: usize) -> bool
 }
 
 // A digit's value, 0 for another byte.
+#[tactic(auto, unfolding(crate::specs::Hex::digit_value_of))]
 fn digit_value(byte: u8) -> u8
     ensures { result ≡ digit_value_of byte }
 {
@@ -59,6 +61,7 @@ pub fn byte_of(high: u8, low: u8) -> u8
 }
 
 // A number's last digit.
+#[tactic(auto, unfolding(crate::specs::Hex::digit_of))]
 pub fn last_digit(n: u16) -> u8
     ensures { result ≡ digit_of n }
 {

@@ -3,7 +3,7 @@ ghost use Rattle.std.specs.Prelude.{◌≡◌, min};
 ghost use Rattle.blockrun_text.specs.Numbers.{number_at, number_after};
 
 // A number, whether there is one, and the place behind its digits.
-#[derive(Drop)]
+#[derive(Clone, Copy)]
 pub struct Number {
     pub good: bool,
     pub value: u32,
@@ -24,6 +24,7 @@ fn capped(n: u32) -> u32
 }
 
 // The digits from `from` on, to a tab or the end. Another byte, or no digit, is no number.
+#[tactic(auto, unfolding(crate::specs::Numbers::number_at))]
 pub fn number_at(line: &[u8], from: usize) -> Number
     ensures { result ≡ number_at line.now from }
 {
@@ -65,6 +66,7 @@ pub fn number_at(line: &[u8], from: usize) -> Number
 }
 
 // The number behind the tab at which the last one ended.
+#[tactic(auto, unfolding(crate::specs::Numbers::number_after))]
 pub fn number_after(line: &[u8], last: Number) -> Number
     ensures { result ≡ number_after line.now last }
 {

@@ -11,7 +11,7 @@ use stores::sizes::least;
 use words::control::Quality;
 
 // The forms of a line; Other is every line that has none of them. A block stands in its line from `at` on, `digits` long.
-#[derive(Drop)]
+#[derive(Clone, Copy)]
 pub enum Line {
     Link {
         address: u32,
@@ -35,6 +35,7 @@ pub enum Line {
 }
 
 // What became of a message on the bus.
+#[tactic(auto, unfolding(crate::specs::Forms::bus_of))]
 fn read_bus(line: &[u8]) -> Line
     ensures { result ≡ bus_of line.now }
 {
@@ -51,6 +52,7 @@ fn read_bus(line: &[u8]) -> Line
 }
 
 // The hex of a block stands behind the seven bytes of its form.
+#[tactic(auto, unfolding(crate::specs::Forms::send_of))]
 fn read_send(quality: Quality, line: &[u8]) -> Line
     ensures { result ≡ send_of quality line.now }
 {
@@ -72,6 +74,7 @@ fn read_send(quality: Quality, line: &[u8]) -> Line
 }
 
 // A line of `len` bytes with five numbers. A bad number makes each one after it bad, so the last one tells.
+#[tactic(auto, unfolding(crate::specs::Forms::five_of))]
 fn five(
     len: usize,
     address: Number,
@@ -97,6 +100,7 @@ fn five(
     }
 }
 
+#[tactic(auto, unfolding(crate::specs::Forms::link_of))]
 fn read_link(line: &[u8]) -> Line
     ensures { result ≡ link_of line.now }
 {
@@ -109,6 +113,7 @@ fn read_link(line: &[u8]) -> Line
 }
 
 // The form of a line, without its newline.
+#[tactic(auto, unfolding(crate::specs::Forms::line_of))]
 pub fn read_line(line: &[u8]) -> Line
     ensures { result ≡ line_of line.now }
 {
@@ -147,6 +152,7 @@ fn read_digits(digits: &[u8], out: &mut [u8]) -> usize
 }
 
 // The bytes of a hex field, `digits` long from `at` on, into the start of out, as many as fit: says how many.
+#[tactic(auto, unfolding(crate::specs::Hex::block_size_of))]
 pub fn read_block(line: &[u8], at: usize, digits: usize, out: &mut [u8]) -> usize
     ensures { (result ≡ block_size_of line.now at digits (length out.old))
         × (out.new ≡ sets out.old 0 (block_of line.now at digits)) }

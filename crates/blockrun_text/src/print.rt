@@ -58,6 +58,7 @@ fn decimal_digit(n: u64) -> u8
 }
 
 // How many digits a number has: `bound` is the least number with more than k.
+#[tactic(auto, unfolding(crate::specs::Printing::decimal_of))]
 fn digit_count(n: u64) -> usize
     ensures { result ≡ length (decimal_of n) }
 {
@@ -112,6 +113,7 @@ pub fn put_decimal(out: &mut [u8], at: usize, n: u64) -> usize
     at + least(k, room)
 }
 
+#[tactic(auto, unfolding(crate::specs::Printing::hex_of))]
 fn put_hex_byte(out: &mut [u8], at: usize, byte: u8) -> usize
     ensures { (result ≡ behind (length out.old) at 2)
         × (out.new ≡ sets out.old at (hex_of (byte ∷ []))) }
@@ -122,6 +124,7 @@ fn put_hex_byte(out: &mut [u8], at: usize, byte: u8) -> usize
 }
 
 // Two digits a byte.
+#[tactic(auto, unfolding(crate::specs::Printing::hex_of))]
 pub fn put_hex_bytes(out: &mut [u8], at: usize, bytes: &[u8]) -> usize
     ensures { (result ≡ behind (length out.old) at (2 * length bytes.now))
         × (out.new ≡ sets out.old at (hex_of bytes.now)) }
@@ -149,6 +152,7 @@ pub fn put_hex_word(out: &mut [u8], at: usize, word: u16) -> usize
     put_text(out, at, &digits)
 }
 
+#[tactic(auto, unfolding(crate::specs::Printing::words_of))]
 fn put_field(out: &mut [u8], at: usize, word: u16) -> usize
     ensures { (result ≡ behind (length out.old) at 5)
         × (out.new ≡ sets out.old at (words_of (word ∷ []))) }
@@ -164,6 +168,7 @@ fn put_field(out: &mut [u8], at: usize, word: u16) -> usize
 }
 
 // A tab and four digits for each word.
+#[tactic(auto, unfolding(crate::specs::Printing::words_of))]
 pub fn put_words(out: &mut [u8], at: usize, words: &[u16]) -> usize
     ensures { (result ≡ behind (length out.old) at (5 * length words.now))
         × (out.new ≡ sets out.old at (words_of words.now)) }

@@ -6,6 +6,7 @@ ghost use Rattle.blockrun_text.specs.Forms.{starts_with, frame_line};
 use crate::text::starts_with;
 
 // The place of the first newline at or after `from`, the buffer's length where there is none.
+#[tactic(auto, unfolding(crate::specs::Splitting::end_of))]
 pub fn line_end(buffer: &[u8], from: usize) -> usize
     ensures { result ≡ end_of buffer.now from }
 {
@@ -20,6 +21,7 @@ pub fn line_end(buffer: &[u8], from: usize) -> usize
 }
 
 // Whether the line at `from` is a whole `frame`, seen without a search for its end: an idle link has no other lines.
+#[tactic(auto, unfolding(crate::specs::Forms::starts_with))]
 pub fn frame_at(buffer: &[u8], from: usize) -> bool
     ensures { result ≡ starts_with frame_line (drop from buffer.now) }
 {

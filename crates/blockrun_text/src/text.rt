@@ -18,6 +18,7 @@ pub fn starts_with(text: &[u8], line: &[u8]) -> bool
     true
 }
 
+#[tactic(auto, unfolding(crate::specs::Forms::is_text))]
 pub fn is_text(text: &[u8], line: &[u8]) -> bool
     ensures { result ≡ is_text text.now line.now }
 {

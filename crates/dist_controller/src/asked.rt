@@ -6,7 +6,7 @@ use crate::state::{Controller, Phase};
 use words::link::Link;
 
 // R: the terminal receives; T: it transmits. With the subaddress and the number of words.
-#[derive(Drop)]
+#[derive(Clone, Copy)]
 pub enum Asked {
     Nothing,
     Receive { subaddress: u8, words: u16 },
@@ -14,6 +14,7 @@ pub enum Asked {
 }
 
 // Message i of a transfer, from 0: its data messages, the descriptor, then reads of 27T.
+#[tactic(auto, unfolding(crate::specs::Asked::transfer_message))]
 pub fn transfer_message(link: Link, size: u16, i: u16) -> Asked
     ensures { result ≡ transfer_message link size i }
 {
@@ -37,6 +38,7 @@ pub fn transfer_message(link: Link, size: u16, i: u16) -> Asked
 }
 
 // The number, from 0, of the last of `gone` messages.
+#[tactic(auto, unfolding(crate::specs::Asked::last_of))]
 pub fn last(gone: u16) -> u16
     ensures { result ≡ last_of gone }
 {
@@ -46,6 +48,7 @@ pub fn last(gone: u16) -> u16
     gone - 1
 }
 
+#[tactic(auto, unfolding(crate::specs::Asked::asked_of))]
 pub fn asked_for(c: Controller) -> Asked
     ensures { result ≡ asked_of c }
 {

@@ -21,6 +21,7 @@ fn ticked(c: Controller) -> Controller
 }
 
 // Whether 27T may be read: from age 2.
+#[tactic(auto, unfolding(crate::specs::Events::due_of))]
 fn due(c: Controller) -> bool
     ensures { result ≡ due_of c }
 {
@@ -28,6 +29,7 @@ fn due(c: Controller) -> bool
 }
 
 // At a tick with nothing asked, a waiting transfer or Reset reads 27T.
+#[tactic(auto, unfolding(crate::specs::Events::ask_again))]
 fn ask_again(c: Controller) -> Controller
     ensures { result ≡ ask_again c }
 {
@@ -50,6 +52,7 @@ fn ask_again(c: Controller) -> Controller
 }
 
 // A frame begins.
+#[tactic(auto, unfolding(crate::specs::Events::frame_of))]
 pub fn frame(c: Controller) -> Stepped
     ensures { result ≡ frame_of c }
 {
@@ -91,6 +94,7 @@ fn voided(c: Controller, phase: Phase) -> Controller
 }
 
 // An open transfer is abandoned at once.
+#[tactic(auto, unfolding(crate::specs::Events::cut_transfer))]
 fn cut_transfer(c: Controller, phase: Phase) -> Controller
     ensures { result ≡ cut_transfer phase c }
 {
@@ -102,6 +106,7 @@ fn cut_transfer(c: Controller, phase: Phase) -> Controller
 }
 
 // A Reset is asked for.
+#[tactic(auto, unfolding(crate::specs::Events::reset_of))]
 pub fn reset(c: Controller) -> Stepped
     ensures { result ≡ reset_of c }
 {
@@ -114,6 +119,7 @@ pub fn reset(c: Controller) -> Stepped
 }
 
 // The controller restarts: all but configuration and tick is fresh.
+#[tactic(auto, unfolding(crate::specs::Events::restart_of))]
 pub fn restart(c: Controller) -> Stepped
     ensures { result ≡ restart_of c }
 {

@@ -9,7 +9,7 @@ use crate::state::{Controller, Phase};
 use crate::submit::short;
 use words::control::Words;
 
-#[derive(Drop)]
+#[derive(Clone, Copy)]
 pub enum Ask {
     Message(Asked),
     Refused(u8),
@@ -25,6 +25,7 @@ fn put_two(out: &mut [u16], words: Words) -> usize
 }
 
 // The words of the transfer's last message: a part of the block, or the descriptor; a read has none.
+#[tactic(auto, unfolding(crate::specs::Message::transfer_words_at, stores::specs::Reading::message_read_of, stores::specs::Reading::read_of))]
 fn put_transfer_words(c: Controller, store: &[u8], out: &mut [u16]) -> usize
     requires { 32 ≤ length out.old }
     ensures { (result ≡ length (transfer_words c store.now))
@@ -47,6 +48,7 @@ fn put_transfer_words(c: Controller, store: &[u8], out: &mut [u16]) -> usize
     )
 }
 
+#[tactic(auto, unfolding(crate::specs::Message::words_asked))]
 fn put_words(c: Controller, store: &[u8], out: &mut [u16]) -> usize
     requires { 32 ≤ length out.old }
     ensures { (result ≡ length (words_asked c store.now))
@@ -68,6 +70,7 @@ fn put_words(c: Controller, store: &[u8], out: &mut [u16]) -> usize
 }
 
 // The words of the message asked for, and how many; none where the buffer has no room for any message.
+#[tactic(auto, unfolding(crate::specs::Message::words_after, crate::specs::Message::words_count))]
 pub fn words_asked(c: Controller, store: &[u8], out: &mut [u16]) -> usize
     ensures { (result ≡ words_count c store.now (length out.old))
         × (out.new ≡ words_after c store.now out.old) }
@@ -79,6 +82,7 @@ pub fn words_asked(c: Controller, store: &[u8], out: &mut [u16]) -> usize
 }
 
 // The buffer has room for any message, or it is too short.
+#[tactic(auto, unfolding(crate::specs::Message::buffer_after, crate::specs::Message::message_of))]
 pub fn message(c: Controller, store: &[u8], out: &mut [u16]) -> Ask
     ensures result { result ≡ message_of c (length store.now) (length out.old) }
     ensures words { out.new ≡ buffer_after c store.now out.old }

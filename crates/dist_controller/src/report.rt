@@ -9,7 +9,7 @@ use crate::told::{Stepped, accept, refuse};
 use words::link::Configuring;
 
 // Where the last Reset stands.
-#[derive(Drop)]
+#[derive(Clone, Copy)]
 pub enum Acceptance {
     Pending,
     Accepted,
@@ -17,7 +17,7 @@ pub enum Acceptance {
 }
 
 // The fate of the transfer that was started last, the messages it asked for, what the last read found, and where the Reset stands.
-#[derive(Drop)]
+#[derive(Clone, Copy)]
 pub struct Report {
     pub fate: Fate,
     pub messages: u16,
@@ -25,7 +25,7 @@ pub struct Report {
     pub acceptance: Acceptance,
 }
 
-#[derive(Drop)]
+#[derive(Clone, Copy)]
 pub enum Reported {
     Report(Report),
     Refused(u8),
@@ -39,6 +39,7 @@ pub fn unconfigured() -> Controller
 }
 
 // A new run, or refusal 20, which leaves an earlier run as it was: a number outside its range, or the block store too short.
+#[tactic(auto, unfolding(crate::specs::Report::configuring_of))]
 pub fn configure(
     c: Controller,
     address: u32,
@@ -62,6 +63,7 @@ pub fn configure(
     }
 }
 
+#[tactic(auto, unfolding(crate::specs::Report::acceptance_of))]
 fn acceptance_of(phase: Phase, accepted: bool) -> Acceptance
     ensures { result ≡ acceptance_of phase accepted }
 {
@@ -82,6 +84,7 @@ fn acceptance_of(phase: Phase, accepted: bool) -> Acceptance
     }
 }
 
+#[tactic(auto, unfolding(crate::specs::Report::report_of))]
 pub fn report_of(c: Controller) -> Reported
     ensures { result ≡ report_of c }
 {

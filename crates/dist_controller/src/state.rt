@@ -8,7 +8,7 @@ use words::count::DistributionCount;
 use words::link::Link;
 
 // Where the controller stands. The last three: a Reset was asked for while such a message was out, which is told first, without effect.
-#[derive(Drop)]
+#[derive(Clone, Copy)]
 pub enum Phase {
     Idle,
     Sending,
@@ -23,7 +23,7 @@ pub enum Phase {
 }
 
 // What became of the transfer that was started last.
-#[derive(Drop)]
+#[derive(Clone, Copy)]
 pub enum Fate {
     None,
     Open,
@@ -34,7 +34,7 @@ pub enum Fate {
 }
 
 // What the last read of 27T found.
-#[derive(Drop)]
+#[derive(Clone, Copy)]
 pub enum Finding {
     None,
     Reset,
@@ -45,7 +45,7 @@ pub enum Finding {
 }
 
 // The transfer that was started last; `gone` counts the messages that it asked for.
-#[derive(Drop)]
+#[derive(Clone, Copy)]
 pub struct Transfer {
     pub size: u16,
     pub quality: Quality,
@@ -54,21 +54,21 @@ pub struct Transfer {
 }
 
 // The present tick, and the one at which the descriptor's outcome was told.
-#[derive(Drop)]
+#[derive(Clone, Copy)]
 pub struct Clock {
     pub tick: u16,
     pub since: u16,
 }
 
 // Whether a Reset is accepted, the last count taken, and the transfers started since the last confirmed block or accepted Reset.
-#[derive(Drop)]
+#[derive(Clone, Copy)]
 pub struct Standing {
     pub accepted: bool,
     pub count: DistributionCount,
     pub spent: u8,
 }
 
-#[derive(Drop)]
+#[derive(Clone, Copy)]
 pub struct Controller {
     pub link: Link,
     pub clock: Clock,
@@ -203,6 +203,7 @@ pub fn with_finding(c: Controller, found: Finding) -> Controller
 }
 
 // The count of messages after one more; it stops at the last number that it has.
+#[tactic(auto, unfolding(crate::specs::State::counted_of))]
 fn counted(gone: u16) -> u16
     ensures { result ≡ counted_of gone }
 {

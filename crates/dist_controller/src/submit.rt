@@ -11,6 +11,7 @@ use words::control::Quality;
 use words::link::Link;
 
 // Whether the link is not configured, or the lent block store is too short for it.
+#[tactic(auto, unfolding(crate::specs::Submit::short_of))]
 pub fn short(link: Link, store: usize) -> bool
     ensures { result ≡ short_of link store }
 {
@@ -21,6 +22,7 @@ pub fn short(link: Link, store: usize) -> bool
 }
 
 // 4 and 5: a transfer is open, or 254 are spent.
+#[tactic(auto, unfolding(crate::specs::Submit::room_answer_of))]
 fn room_answer(c: Controller) -> Answer
     ensures { result ≡ room_answer_of c }
 {
@@ -35,6 +37,7 @@ fn room_answer(c: Controller) -> Answer
 }
 
 // Refusals 1 to 5, the lowest first.
+#[tactic(auto, unfolding(crate::specs::Submit::submit_answer_of))]
 fn submit_answer(c: Controller, size: usize, store: usize) -> Answer
     ensures { result ≡ submit_answer_of c size store }
 {
@@ -52,6 +55,7 @@ fn submit_answer(c: Controller, size: usize, store: usize) -> Answer
 }
 
 // Below 254 this is one more; the byte never runs over.
+#[tactic(auto, unfolding(crate::specs::Submit::one_more_spent))]
 fn one_more_spent(spent: u8) -> u8
     ensures { result ≡ one_more_spent spent }
 {
@@ -62,6 +66,7 @@ fn one_more_spent(spent: u8) -> u8
 }
 
 // A transfer takes the next count and asks for its first data message at once.
+#[tactic(auto, unfolding(crate::specs::Submit::started_of))]
 fn started(c: Controller, quality: Quality, size: u16) -> Controller
     ensures { result ≡ started_of quality size c }
 {
@@ -84,6 +89,7 @@ fn started(c: Controller, quality: Quality, size: u16) -> Controller
 }
 
 // A block is submitted; where it is accepted it is written, message by message, into the lent store.
+#[tactic(auto, unfolding(crate::specs::Submit::submit_of, crate::specs::Submit::store_after))]
 pub fn submit(c: Controller, quality: Quality, block: &[u8], store: &mut [u8]) -> Stepped
     ensures result { result ≡ submit_of c quality block.now (length store.old) }
     ensures bytes { store.new ≡ store_after c block.now store.old }

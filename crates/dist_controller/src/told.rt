@@ -13,7 +13,7 @@ use words::count::DistributionCount;
 use words::status::Outcome;
 
 // A state, and what the call answered.
-#[derive(Drop)]
+#[derive(Clone, Copy)]
 pub struct Stepped {
     pub controller: Controller,
     pub answer: Answer,
@@ -29,6 +29,7 @@ fn is_done(outcome: Outcome) -> bool
 }
 
 // A data message with no reply ends a Verified Length transfer.
+#[tactic(auto, unfolding(crate::specs::Told::stops_of))]
 fn stops(quality: Quality, outcome: Outcome) -> bool
     ensures { result ≡ stops_of quality outcome }
 {
@@ -46,6 +47,7 @@ pub fn age_now(c: Controller) -> u16
 }
 
 // Whether the confirmation window is over.
+#[tactic(auto, unfolding(crate::specs::Told::overdue_of))]
 fn overdue(c: Controller) -> bool
     ensures { result ≡ overdue_of c }
 {
@@ -64,6 +66,7 @@ fn told_now(c: Controller, phase: Phase) -> Controller
 }
 
 // A data message or the descriptor was told.
+#[tactic(auto, unfolding(crate::specs::Told::sent_of))]
 fn sent(c: Controller, outcome: Outcome) -> Controller
     ensures { result ≡ sent_of c outcome }
 {
@@ -79,6 +82,7 @@ fn sent(c: Controller, outcome: Outcome) -> Controller
 }
 
 // A read that brought another number of words than two is as good as none.
+#[tactic(auto, unfolding(crate::specs::Told::lost_of))]
 fn lost(outcome: Outcome, words: &[u16]) -> bool
     ensures { result ≡ lost_of outcome words.now }
 {
@@ -89,6 +93,7 @@ fn lost(outcome: Outcome, words: &[u16]) -> bool
 }
 
 // What the words of 27T mean to the transfer with this count; to none, where none is open.
+#[tactic(auto, unfolding(crate::specs::Told::confirmation_found))]
 fn confirmation_found(
     confirmation: DistributionConfirmation,
     waits: bool,
@@ -118,6 +123,7 @@ fn confirmation_found(
     }
 }
 
+#[tactic(auto, unfolding(crate::specs::Told::finding_of))]
 fn finding(c: Controller, waits: bool, outcome: Outcome, words: &[u16]) -> Finding
     ensures { result ≡ finding_of c waits outcome words.now }
 {
@@ -146,6 +152,7 @@ fn confirmed(c: Controller) -> Controller
 }
 
 // No answer yet: 27T is read again next frame, until the window is over.
+#[tactic(auto, unfolding(crate::specs::Told::unanswered_of))]
 fn unanswered(c: Controller) -> Controller
     ensures { result ≡ unanswered_of c }
 {
@@ -156,6 +163,7 @@ fn unanswered(c: Controller) -> Controller
 }
 
 // 27T was read for the open transfer.
+#[tactic(auto, unfolding(crate::specs::Told::read_of))]
 fn read(c: Controller, found: Finding) -> Controller
     ensures { result ≡ read_of c found }
 {
@@ -182,6 +190,7 @@ fn accepted(c: Controller) -> Controller
 }
 
 // No Reset shown yet; without it at the end of the window it is not accepted.
+#[tactic(auto, unfolding(crate::specs::Told::not_shown))]
 fn not_shown(c: Controller) -> Controller
     ensures { result ≡ not_shown c }
 {
@@ -192,6 +201,7 @@ fn not_shown(c: Controller) -> Controller
 }
 
 // 27T was read for the Reset.
+#[tactic(auto, unfolding(crate::specs::Told::reset_read_of))]
 fn reset_read(c: Controller, found: Finding) -> Controller
     ensures { result ≡ reset_read_of c found }
 {
@@ -206,6 +216,7 @@ fn reset_read(c: Controller, found: Finding) -> Controller
 }
 
 // The Reset descriptor was told: only one that was done can be accepted.
+#[tactic(auto, unfolding(crate::specs::Told::reset_sent_of))]
 fn reset_sent(c: Controller, outcome: Outcome) -> Controller
     ensures { result ≡ reset_sent_of c outcome }
 {
@@ -234,6 +245,7 @@ pub fn refuse(n: u8, c: Controller) -> Stepped
 }
 
 // A read of 27T was told, for the open transfer.
+#[tactic(auto, unfolding(crate::specs::Told::told_reading))]
 fn told_reading(c: Controller, outcome: Outcome, words: &[u16]) -> Controller
     ensures { result ≡ told_reading c outcome words.now }
 {
@@ -242,6 +254,7 @@ fn told_reading(c: Controller, outcome: Outcome, words: &[u16]) -> Controller
 }
 
 // A read of 27T was told, for the Reset.
+#[tactic(auto, unfolding(crate::specs::Told::told_reset_reading))]
 fn told_reset_reading(c: Controller, outcome: Outcome, words: &[u16]) -> Controller
     ensures { result ≡ told_reset_reading c outcome words.now }
 {
@@ -250,6 +263,7 @@ fn told_reset_reading(c: Controller, outcome: Outcome, words: &[u16]) -> Control
 }
 
 // A read that a Reset cut was told: the Reset's turn.
+#[tactic(auto, unfolding(crate::specs::Told::told_cut_reading))]
 fn told_cut_reading(c: Controller, outcome: Outcome, words: &[u16]) -> Controller
     ensures { result ≡ told_cut_reading c outcome words.now }
 {
@@ -258,6 +272,7 @@ fn told_cut_reading(c: Controller, outcome: Outcome, words: &[u16]) -> Controlle
 }
 
 // 18: an outcome told when no message is asked for.
+#[tactic(auto, unfolding(crate::specs::Told::told_of))]
 pub fn told(c: Controller, outcome: Outcome, words: &[u16]) -> Stepped
     ensures { result ≡ told_of c outcome words.now }
 {

@@ -11,6 +11,7 @@ use words::answer::Answer;
 use words::status::Outcome;
 
 // Whether the link is not configured at either end, or a store is lent too short.
+#[tactic(auto, unfolding(crate::specs::Bus::lent_short))]
 fn lent_short(p: Pair, store: usize, places: usize, hand: usize) -> bool
     ensures { result ≡ lent_short p store places hand }
 {
@@ -23,6 +24,7 @@ fn lent_short(p: Pair, store: usize, places: usize, hand: usize) -> bool
 }
 
 // The message's words reach the terminal, which acts at once.
+#[tactic(auto, unfolding(dist_controller::specs::Message::words_count, crate::specs::Bus::hand_received, crate::specs::Bus::places_received, crate::specs::Bus::receive_of, dist_controller::specs::Message::words_after))]
 fn deliver(p: Pair, subaddress: u8, store: &[u8], places: &mut [u8], hand: &mut [u8]) -> Stepped
     ensures result { result ≡ receive_of p subaddress store.now (length places.old) (length hand.old) }
     ensures bytes { (places.new ≡ places_received p subaddress store.now places.old (length hand.old))
@@ -59,6 +61,7 @@ fn has_arrived(flight: Flight) -> bool
 }
 
 // 18: no message is asked for, or it arrived already.
+#[tactic(auto, unfolding(crate::specs::Bus::arrive_of, crate::specs::Bus::hand_after, crate::specs::Bus::places_after))]
 pub fn arrive(p: Pair, store: &[u8], places: &mut [u8], hand: &mut [u8]) -> Stepped
     ensures result { result ≡ arrive_of p store.now (length places.old) (length hand.old) }
     ensures bytes { (places.new ≡ places_after p store.now places.old (length hand.old))
@@ -86,6 +89,7 @@ pub fn arrive(p: Pair, store: &[u8], places: &mut [u8], hand: &mut [u8]) -> Step
 }
 
 // The outcome is told; the next message, if one is asked for, has not arrived.
+#[tactic(auto, unfolding(crate::specs::Bus::tell_of))]
 fn tell(p: Pair, outcome: Outcome, words: &[u16]) -> Stepped
     ensures { result ≡ tell_of p outcome words.now }
 {
@@ -104,6 +108,7 @@ fn tell(p: Pair, outcome: Outcome, words: &[u16]) -> Stepped
 }
 
 // Done: only of a message that arrived, with what was caught.
+#[tactic(auto, unfolding(crate::specs::Bus::told_done))]
 pub fn told_done(p: Pair) -> Stepped
     ensures { result ≡ told_done p }
 {
@@ -126,6 +131,7 @@ pub fn told_done(p: Pair) -> Stepped
 }
 
 // No reply: the message arrived or not.
+#[tactic(auto, unfolding(crate::specs::Bus::told_no_reply))]
 pub fn told_no_reply(p: Pair) -> Stepped
     ensures { result ≡ told_no_reply p }
 {

@@ -9,7 +9,7 @@ use dist_terminal::take::Take;
 use words::answer::Answer;
 use words::control::Quality;
 
-#[derive(Drop)]
+#[derive(Clone, Copy)]
 pub struct Taken {
     pub pair: Pair,
     pub take: Take,
@@ -33,6 +33,7 @@ fn terminal_stepped(p: Pair, s: dist_terminal::state::Stepped, flight: Flight) -
     answer_with(with_terminal(p, terminal, flight), answer)
 }
 
+#[tactic(auto, unfolding(crate::specs::Events::submit_of))]
 pub fn submit(p: Pair, quality: Quality, block: &[u8], store: &mut [u8]) -> Stepped
     ensures result { result ≡ submit_of p quality block.now (length store.old) }
     ensures bytes { store.new ≡ block_after p block.now store.old }
@@ -41,12 +42,14 @@ pub fn submit(p: Pair, quality: Quality, block: &[u8], store: &mut [u8]) -> Step
     controller_stepped(p, s)
 }
 
+#[tactic(auto, unfolding(crate::specs::Events::reset_of))]
 pub fn reset(p: Pair) -> Stepped
     ensures { result ≡ reset_of p }
 {
     controller_stepped(p, dist_controller::events::reset(p.controller))
 }
 
+#[tactic(auto, unfolding(crate::specs::Events::frame_of))]
 pub fn frame(p: Pair) -> Stepped
     ensures { result ≡ frame_of p }
 {
@@ -54,6 +57,7 @@ pub fn frame(p: Pair) -> Stepped
 }
 
 // A restarted controller's message is gone, with what was caught.
+#[tactic(auto, unfolding(crate::specs::Events::controller_restarted))]
 pub fn restart_controller(p: Pair) -> Stepped
     ensures { result ≡ controller_restarted p }
 {
@@ -72,6 +76,7 @@ pub fn restart_controller(p: Pair) -> Stepped
 }
 
 // After a terminal's restart the controller's message stays asked for.
+#[tactic(auto, unfolding(crate::specs::Events::terminal_restarted))]
 pub fn restart_terminal(p: Pair, places: &mut [u8]) -> Stepped
     ensures result { result ≡ terminal_restarted p (length places.old) }
     ensures bytes { places.new ≡ places_restarted p places.old }
@@ -81,6 +86,7 @@ pub fn restart_terminal(p: Pair, places: &mut [u8]) -> Stepped
     terminal_stepped(p, s, flight)
 }
 
+#[tactic(auto, unfolding(crate::specs::Events::take_of))]
 pub fn take_block(p: Pair, hand: &[u8], buffer: &mut [u8]) -> Taken
     ensures result { result ≡ take_of p (length hand.now) (length buffer.old) }
     ensures bytes { buffer.new ≡ buffer_after p hand.now buffer.old }
@@ -94,6 +100,7 @@ pub fn take_block(p: Pair, hand: &[u8], buffer: &mut [u8]) -> Taken
 }
 
 // Both ends are configured alike, or neither is.
+#[tactic(auto, unfolding(crate::specs::Events::configure_of, crate::specs::Events::places_configured))]
 pub fn configure(
     p: Pair,
     address: u32,

@@ -9,21 +9,21 @@ use words::control::Words;
 
 // The message asked for has not arrived; it arrived; or it was a read and its words were caught at the terminal.
 // With nothing asked for it is the first.
-#[derive(Drop)]
+#[derive(Clone, Copy)]
 pub enum Flight {
     NotArrived,
     Arrived,
     Caught(Words),
 }
 
-#[derive(Drop)]
+#[derive(Clone, Copy)]
 pub struct Pair {
     pub controller: Controller,
     pub terminal: Terminal,
     pub flight: Flight,
 }
 
-#[derive(Drop)]
+#[derive(Clone, Copy)]
 pub struct Stepped {
     pub pair: Pair,
     pub answer: Answer,

@@ -10,6 +10,7 @@ use crate::state::{Stepped, Terminal, accept, fresh, refuse};
 use words::link::{Configuring, Link};
 
 // The places are zero.
+#[tactic(auto, unfolding(crate::specs::Calls::emptied))]
 fn empty_places(link: Link, store: &mut [u8])
     requires { message_store_of link ≤ length store.old }
     ensures { store.new ≡ emptied link store.old }
@@ -19,6 +20,7 @@ fn empty_places(link: Link, store: &mut [u8])
 }
 
 // A restart keeps the configuration; all else is fresh.
+#[tactic(auto, unfolding(crate::specs::Calls::restart_of, crate::specs::Calls::store_restarted))]
 pub fn restart(t: Terminal, store: &mut [u8]) -> Stepped
     ensures result { result ≡ restart_of t (length store.old) }
     ensures bytes { store.new ≡ store_restarted t store.old }
@@ -31,6 +33,7 @@ pub fn restart(t: Terminal, store: &mut [u8]) -> Stepped
 }
 
 // Whether a link's stores are lent too short for it.
+#[tactic(auto, unfolding(crate::specs::Calls::unfit_of))]
 fn unfit(link: Link, store: usize, hand: usize) -> bool
     ensures { result ≡ unfit_of link store hand }
 {
@@ -48,6 +51,7 @@ pub fn unconfigured() -> Terminal
 }
 
 // A new run, or refusal 20, which leaves an earlier run as it was: a number outside its range, or a store too short.
+#[tactic(auto, unfolding(crate::specs::Calls::configuring_of, crate::specs::Calls::store_configured))]
 pub fn configure(
     t: Terminal,
     address: u32,
@@ -75,6 +79,7 @@ pub fn configure(
 }
 
 // A message to a receive subaddress: 27 has the descriptor, others data.
+#[tactic(auto, unfolding(crate::specs::Calls::hand_received, crate::specs::Calls::receive_of, crate::specs::Calls::store_received))]
 pub fn receive(
     t: Terminal,
     subaddress: u8,

@@ -9,6 +9,7 @@ use words::answer::Answer;
 use words::link::Link;
 
 // Whether the link is not configured, or the lent message store is too short for it.
+#[tactic(auto, unfolding(crate::specs::Data::store_short))]
 pub fn store_short(link: Link, store: usize) -> bool
     ensures { result ≡ store_short link store }
 {
@@ -33,6 +34,7 @@ fn marked_with(marks: Marks, subaddress: u8, n: u8) -> Marks
 }
 
 // Mode 1's words received, after n more; past the 2048th they only stay too many.
+#[tactic(auto, unfolding(crate::specs::Data::received_after))]
 fn received_after(received: u16, n: usize) -> u16
     requires { n ≤ 32 }
     ensures { result ≡ received_after received n }
@@ -65,6 +67,7 @@ fn place(store: &mut [u8], subaddress: u8, words: &[u16])
 }
 
 // A message of mode 1 goes after what was received; words past the 2048th are not kept.
+#[tactic(auto, unfolding(words::specs::Bytes::bytes_of))]
 fn append(store: &mut [u8], received: u16, words: &[u16])
     requires { (4096 ≤ length store.old) × (length words.now ≤ 32) }
     ensures { store.new ≡ sets store.old (2 * received) (bytes_of (take (2048 - received) words.now)) }
@@ -77,6 +80,7 @@ fn append(store: &mut [u8], received: u16, words: &[u16])
 }
 
 // Refusals 1 and 19.
+#[tactic(auto, unfolding(crate::specs::Data::answer_of))]
 fn answer(t: Terminal, subaddress: u8, n: usize, store: usize) -> Answer
     ensures { result ≡ answer_of t subaddress n store }
 {
@@ -86,6 +90,7 @@ fn answer(t: Terminal, subaddress: u8, n: usize, store: usize) -> Answer
     words::cutting::data_answer(t.link, subaddress, n)
 }
 
+#[tactic(auto, unfolding(crate::specs::Data::data_of, crate::specs::Data::store_after, crate::specs::Data::noted_of, crate::specs::Data::placed_of))]
 pub fn data(t: Terminal, subaddress: u8, words: &[u16], store: &mut [u8]) -> Stepped
     ensures result { result ≡ data_of t subaddress (length words.now) (length store.old) }
     ensures bytes { store.new ≡ store_after t subaddress words.now store.old }

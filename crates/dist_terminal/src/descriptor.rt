@@ -13,7 +13,7 @@ use words::count::DistributionCount;
 use words::link::Link;
 
 // What becomes of a block: 12 to 15, or it is accepted.
-#[derive(Drop)]
+#[derive(Clone, Copy)]
 pub enum Judged {
     NoReset,
     Again,
@@ -23,6 +23,7 @@ pub enum Judged {
 }
 
 // Whether the link is not configured, or a lent store is too short for it.
+#[tactic(auto, unfolding(crate::specs::Descriptor::short))]
 pub fn is_short(link: Link, store: usize, hand: usize) -> bool
     ensures { result ≡ short link store hand }
 {
@@ -33,6 +34,7 @@ pub fn is_short(link: Link, store: usize, hand: usize) -> bool
 }
 
 // Best Effort is always met.
+#[tactic(auto, unfolding(crate::specs::Descriptor::unmet_of))]
 fn unmet(t: Terminal, size: u16, quality: Quality) -> bool
     ensures { result ≡ unmet_of t size quality }
 {
@@ -52,6 +54,7 @@ fn is_holding(hand: Hand) -> bool
 }
 
 // Tests 12 to 15, the lowest first.
+#[tactic(auto, unfolding(crate::specs::Descriptor::judged_of))]
 fn judge(t: Terminal, size: u16, quality: Quality, count: DistributionCount) -> Judged
     ensures { result ≡ judged_of t size quality count }
 {
@@ -98,6 +101,7 @@ fn fill_from_words(received: u16, size: usize, store: &[u8], hand: &mut [u8])
     stores::copies::zero_bytes(&mut hand[came..size]);
 }
 
+#[tactic(auto, unfolding(crate::specs::Descriptor::taken_of))]
 fn fill_hand(t: Terminal, size: usize, store: &[u8], hand: &mut [u8])
     requires { (size ≤ 4096) × ((size ≤ length hand.old) × (message_store_of t.link ≤ length store.now)) }
     ensures { hand.new ≡ sets hand.old 0 (taken_of t size store.now) }
@@ -110,6 +114,7 @@ fn fill_hand(t: Terminal, size: usize, store: &[u8], hand: &mut [u8])
 }
 
 // A descriptor without Reset.
+#[tactic(auto, unfolding(crate::specs::Descriptor::judged_of))]
 fn block(
     t: Terminal,
     size: u16,
@@ -136,6 +141,7 @@ fn block(
 }
 
 // Refusals 1 and 6 to 15.
+#[tactic(auto, unfolding(crate::specs::Descriptor::descriptor_of, crate::specs::Descriptor::hand_after))]
 pub fn descriptor(t: Terminal, words: &[u16], store: &[u8], hand: &mut [u8]) -> Stepped
     ensures result { result ≡ descriptor_of t words.now (length store.now) (length hand.old) }
     ensures bytes { hand.new ≡ hand_after t words.now store.now hand.old }

@@ -6,6 +6,7 @@ use crate::state::{Marks, Terminal};
 use words::answer::Answer;
 
 // Whether place k was last written with the words that message k of the size has, since marks were cleared.
+#[tactic(auto, unfolding(crate::specs::Length::place_met, stores::specs::Marks::is_marked_of, stores::specs::Marks::has_mark))]
 fn place_met(marks: Marks, size: u16, k: u16) -> bool
     ensures { result ≡ place_met marks size k }
 {
@@ -36,6 +37,7 @@ fn places_met(marks: Marks, size: u16, n: u16) -> bool
 }
 
 // Whether Verified Length holds for a block of the size.
+#[tactic(auto, unfolding(crate::specs::Length::length_met))]
 pub fn length_met(t: Terminal, size: u16) -> bool
     ensures { result ≡ length_met t size }
 {
@@ -46,12 +48,13 @@ pub fn length_met(t: Terminal, size: u16) -> bool
 }
 
 // The number of marked subaddresses, and the lowest one missing of those that the size needs.
-#[derive(Drop)]
+#[derive(Clone, Copy)]
 pub enum Question {
     Marked { marked: u8, missing: u8 },
     Refused(u8),
 }
 
+#[tactic(auto, unfolding(crate::specs::Length::question_of))]
 pub fn question_of(t: Terminal, size: usize) -> Question
     ensures { result ≡ question_of t size }
 {

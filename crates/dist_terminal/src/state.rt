@@ -8,14 +8,14 @@ use words::count::DistributionCount;
 use words::link::Link;
 
 // The block in hand: its bytes are in the lent hand.
-#[derive(Drop)]
+#[derive(Clone, Copy)]
 pub enum Hand {
     Empty,
     Holding { size: u16, count: DistributionCount },
 }
 
 // Which subaddresses were written since marks were last cleared, and with how many words each was written last.
-#[derive(Drop)]
+#[derive(Clone, Copy)]
 pub struct Marks {
     pub places: u16,
     pub words: [u8; 16],
@@ -23,7 +23,7 @@ pub struct Marks {
 
 // `seen`: a Reset was seen. `handled`: the last handled count. `shown`: the words of 27T. `received`: mode 1's words since marks were
 // cleared, 2049 standing for any number that is too many.
-#[derive(Drop)]
+#[derive(Clone, Copy)]
 pub struct Terminal {
     pub link: Link,
     pub seen: bool,
@@ -35,7 +35,7 @@ pub struct Terminal {
 }
 
 // A state, and what the call answered.
-#[derive(Drop)]
+#[derive(Clone, Copy)]
 pub struct Stepped {
     pub terminal: Terminal,
     pub answer: Answer,

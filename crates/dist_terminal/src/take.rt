@@ -8,18 +8,19 @@ use words::count::DistributionCount;
 use words::link::Link;
 
 // A block of so many bytes was delivered, or refusal 1, 16 or 17.
-#[derive(Drop)]
+#[derive(Clone, Copy)]
 pub enum Take {
     Delivered(u16),
     Refused(u8),
 }
 
-#[derive(Drop)]
+#[derive(Clone, Copy)]
 pub struct Taken {
     pub terminal: Terminal,
     pub take: Take,
 }
 
+#[tactic(auto, unfolding(crate::specs::Take::hand_short))]
 fn hand_short(link: Link, hand: usize) -> bool
     ensures { result ≡ hand_short link hand }
 {
@@ -39,6 +40,7 @@ fn delivered(t: Terminal, size: u16, count: DistributionCount) -> Terminal
 }
 
 // Taking a block delivers it; bytes of the buffer past the block stay.
+#[tactic(auto, unfolding(crate::specs::Take::buffer_after, crate::specs::Take::take_of))]
 pub fn take_block(t: Terminal, hand: &[u8], buffer: &mut [u8]) -> Taken
     ensures result { result ≡ take_of t (length hand.now) (length buffer.old) }
     ensures bytes { buffer.new ≡ buffer_after t hand.now buffer.old }
@@ -72,6 +74,7 @@ pub fn take_block(t: Terminal, hand: &[u8], buffer: &mut [u8]) -> Taken
 }
 
 // 27T is transmitted into a lent buffer; any number of words but two is refusal 6.
+#[tactic(auto, unfolding(crate::specs::Take::shown_after, crate::specs::Take::transmit_of))]
 pub fn transmit(t: Terminal, asked: usize, out: &mut [u16]) -> Answer
     ensures result { result ≡ transmit_of t asked (length out.old) }
     ensures words { out.new ≡ shown_after t asked out.old }

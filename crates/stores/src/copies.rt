@@ -11,6 +11,7 @@ use crate::sizes::least;
 use crate::writer::write_message;
 
 // Message k of a block goes by way of the words on the bus to its place in the store.
+#[tactic(auto, unfolding(crate::specs::Reading::message_words_read_of, crate::specs::Reading::words_read_of, crate::specs::Reading::message_read_of, crate::specs::Reading::read_of, words::specs::Cutting::part_of))]
 fn carry_message(store: &mut [u8], block: &[u8], k: usize)
     requires { 64 * k ≤ length block.now }
     ensures { store.new ≡ message_written_of store.old (64 * k) (words_of (part_of block.now k)) }
@@ -21,6 +22,7 @@ fn carry_message(store: &mut [u8], block: &[u8], k: usize)
 }
 
 // A sender's block goes message by message into the lent store. What does not fit is not stored; the rest of the store stays.
+#[tactic(auto, unfolding(crate::specs::Copying::stored_of, crate::specs::Writing::written_of))]
 pub fn store_block(store: &mut [u8], block: &[u8])
     ensures { store.new ≡ stored_of store.old block.now }
 {
@@ -45,6 +47,7 @@ fn copy_all(src: &[u8], dst: &mut [u8])
 }
 
 // Copies the first n bytes of src, at most the largest block's 4096, to the start of dst. The rest of dst stays.
+#[tactic(auto, unfolding(crate::specs::Copying::copied_of))]
 pub fn copy_bytes(src: &[u8], dst: &mut [u8], n: usize)
     ensures { dst.new ≡ copied_of src.now dst.old n }
 {
@@ -56,6 +59,7 @@ pub fn copy_bytes(src: &[u8], dst: &mut [u8], n: usize)
 }
 
 // Puts zeros into all of part.
+#[tactic(auto, unfolding(crate::specs::Copying::zeros_of))]
 pub fn zero_bytes(part: &mut [u8])
     ensures { part.new ≡ zeros_of (length part.old) }
 {

@@ -3,6 +3,7 @@ ghost use Rattle.std.specs.Prelude.{◌≡◌, ◌≤◌, ◌-◌, ◌^◌, min,
 ghost use Rattle.stores.specs.Marks.{marks_of, first_false, mark_of, is_marked_of, marked_of, lowest_missing_of};
 
 // The marks with that of a subaddress. One outside 11 to 26 changes nothing.
+#[tactic(auto, unfolding(crate::specs::Marks::mark_of, crate::specs::Marks::has_mark))]
 pub fn mark(marks: u16, subaddress: u8) -> u16
     ensures { result ≡ mark_of marks subaddress }
 {
@@ -16,6 +17,7 @@ pub fn mark(marks: u16, subaddress: u8) -> u16
 }
 
 // Whether a subaddress is marked.
+#[tactic(auto, unfolding(crate::specs::Marks::is_marked_of, crate::specs::Marks::has_mark))]
 pub fn is_marked(marks: u16, subaddress: u8) -> bool
     ensures { result ≡ is_marked_of marks subaddress }
 {
@@ -29,6 +31,7 @@ pub fn is_marked(marks: u16, subaddress: u8) -> bool
 }
 
 // How many are marked.
+#[tactic(auto, unfolding(crate::specs::Marks::marked_of))]
 pub fn marked(marks: u16) -> u8
     ensures { result ≡ marked_of marks }
 {
@@ -62,6 +65,7 @@ fn capped(n: u16) -> u16
 }
 
 // The lowest subaddress of the first `needed` that has no mark, 0 where each has one. There are sixteen.
+#[tactic(auto, unfolding(crate::specs::Marks::lowest_missing_of))]
 pub fn lowest_missing(marks: u16, needed: u16) -> u8
     ensures { result ≡ lowest_missing_of marks needed }
 {

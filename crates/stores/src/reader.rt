@@ -68,6 +68,7 @@ fn read_pairs(part: &[u8], out: &mut [u16], n: usize)
 }
 
 // As many words as out has room for, an odd end filled up.
+#[tactic(auto, unfolding(crate::specs::Reading::read_of, crate::specs::Reading::words_read_of))]
 fn read_some(part: &[u8], out: &mut [u16]) -> usize
     ensures { (result ≡ words_read_of (length out.old) (length part.now))
         × (out.new ≡ read_of out.old part.now) }
@@ -96,6 +97,7 @@ fn is_whole(bytes: usize, room: usize) -> bool
 }
 
 // Reads the bytes of part as words into the start of out, first byte high, and says how many. The rest of out stays.
+#[tactic(auto, unfolding(crate::specs::Reading::read_of, crate::specs::Reading::words_read_of))]
 pub fn read_words(part: &[u8], out: &mut [u16]) -> usize
     ensures { (result ≡ words_read_of (length out.old) (length part.now))
         × (out.new ≡ read_of out.old part.now) }
@@ -109,6 +111,7 @@ pub fn read_words(part: &[u8], out: &mut [u16]) -> usize
 }
 
 // The words of message k, from 0, of the block of `size` bytes at the start of `block`: into the start of out, and how many.
+#[tactic(auto, unfolding(crate::specs::Reading::message_read_of, crate::specs::Reading::message_words_read_of, crate::specs::Reading::read_of, crate::specs::Reading::words_read_of, words::specs::Bytes::words_of))]
 pub fn read_message(block: &[u8], size: usize, k: usize, out: &mut [u16]) -> usize
     ensures { (result ≡ message_words_read_of (length out.old) block.now size k)
         × (out.new ≡ message_read_of out.old block.now size k) }

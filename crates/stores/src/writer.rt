@@ -48,6 +48,7 @@ fn write_some(part: &mut [u8], words: &[u16], n: usize)
 }
 
 // Writes as many words as fit into the start of part, first byte high, and says how many. The rest of part stays.
+#[tactic(auto, unfolding(crate::specs::Writing::written_of, crate::specs::Writing::words_written_of))]
 pub fn write_words(part: &mut [u8], words: &[u16]) -> usize
     ensures { (result ≡ words_written_of (length part.old) (length words.now))
         × (part.new ≡ written_of part.old words.now) }
@@ -64,6 +65,7 @@ pub fn write_words(part: &mut [u8], words: &[u16]) -> usize
 
 // Writes a message into its place, the 64 bytes from byte `at` of the store on, and says how many words it was.
 // What is past the place's end, or past the store's, is not written.
+#[tactic(auto, unfolding(crate::specs::Writing::message_written_of, crate::specs::Writing::message_words_written_of, crate::specs::Writing::room_of, words::specs::Bytes::bytes_of, crate::specs::Writing::written_of, crate::specs::Writing::words_written_of))]
 pub fn write_message(store: &mut [u8], at: usize, words: &[u16]) -> usize
     ensures { (result ≡ message_words_written_of (length store.old) at (length words.now))
         × (store.new ≡ message_written_of store.old at words.now) }

@@ -1,4 +1,6 @@
 // The word writer and the word reader as C calls, in an archive by themselves: what bench/words_speed.sh measures.
+#![tactic(auto)]
+
 ghost use Rattle.std.specs.Prelude.{◌≡◌, length};
 ghost use Rattle.stores.specs.Writing.{message_written_of, message_words_written_of};
 ghost use Rattle.stores.specs.Reading.{message_read_of, message_words_read_of};

@@ -1,4 +1,6 @@
 // Runs the vectors of `words`; `stdout` has what they must give, written by tests/vectors.py.
+#![tactic(auto)]
+
 fn main() {
     vectors_lib::run();
 }

@@ -4,7 +4,7 @@ use words::link;
 use words::link::{Configuring, Link};
 
 // The five numbers of a configuration, of any size.
-#[derive(Drop)]
+#[derive(Clone, Copy)]
 struct Five {
     address: u32,
     mode: u32,

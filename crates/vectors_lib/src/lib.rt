@@ -1,6 +1,8 @@
 // Vectors for the crate `words`: each public function there is run on inputs at its edges, and what it answers is written,
 // a line to a vector, tab-parted. What each line must be is worked out apart from this code, by tests/vectors.py.
 // No contract can say what is written, so the functions here are proved safe and ending, and the lines are compared.
+#![tactic(auto)]
+
 mod blocks;
 mod configuring;
 mod print;

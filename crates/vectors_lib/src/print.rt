@@ -54,6 +54,7 @@ pub fn number(n: u64) {
 }
 
 // `io` has small letters only.
+#[tactic(auto, unfolding(crate::specs::Line::digit_of))]
 pub fn digit(n: u16) -> u8
     ensures { result ≡ digit_of n }
 {

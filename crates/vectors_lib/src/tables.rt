@@ -8,7 +8,7 @@ use words::link::Link;
 use words::{control, reading};
 
 // Whose reading a vector is for.
-#[derive(Drop)]
+#[derive(Clone, Copy)]
 enum Table {
     Descriptor,
     Request,

@@ -5,7 +5,7 @@ ghost use Rattle.words.specs.Command.{command_words, read_command_of};
 use crate::control::Words;
 
 // What a message to SA 1R means to the acquisition protocol.
-#[derive(Drop)]
+#[derive(Clone, Copy)]
 pub enum Command {
     Reset,
     Other,
@@ -23,6 +23,7 @@ pub fn command_words() -> Words
 }
 
 // The second word is the Reset Services command, and its bit 15 is this protocol's; the rest is for others to read.
+#[tactic(auto, unfolding(crate::specs::Command::read_command_of))]
 pub fn read_command(words: &[u16]) -> Command
     ensures { result ≡ read_command_of words.now }
 {

@@ -6,21 +6,21 @@ ghost use Rattle.words.specs.Control.{descriptor_words, request_words, distribut
 use crate::count::{AcquisitionCount, DistributionCount};
 use crate::link::Link;
 
-#[derive(Drop)]
+#[derive(Clone, Copy)]
 pub struct Words {
     pub first: u16,
     pub second: u16,
 }
 
 // QoS: 1 is Verified Length, 0 is Best Effort.
-#[derive(Drop)]
+#[derive(Clone, Copy)]
 pub enum Quality {
     BestEffort,
     Verified,
 }
 
 // What two words say, whichever the table: the top bit of the second word is QoS in 8-3 and 8-6, Error in 8-4 and 8-5.
-#[derive(Drop)]
+#[derive(Clone, Copy)]
 pub enum Control {
     Reset,
     Block { size: u16, flag: bool, count: u8 },
@@ -28,7 +28,7 @@ pub enum Control {
 }
 
 // Table 8-3.
-#[derive(Drop)]
+#[derive(Clone, Copy)]
 pub enum Descriptor {
     Reset,
     Block {
@@ -40,7 +40,7 @@ pub enum Descriptor {
 }
 
 // Table 8-6. Two zero words are no request yet.
-#[derive(Drop)]
+#[derive(Clone, Copy)]
 pub enum Request {
     Nothing,
     Reset,
@@ -53,7 +53,7 @@ pub enum Request {
 }
 
 // Table 8-4.
-#[derive(Drop)]
+#[derive(Clone, Copy)]
 pub enum DistributionConfirmation {
     Reset,
     Block {
@@ -65,7 +65,7 @@ pub enum DistributionConfirmation {
 }
 
 // Table 8-5.
-#[derive(Drop)]
+#[derive(Clone, Copy)]
 pub enum AcquisitionConfirmation {
     Reset,
     Block {
@@ -101,6 +101,7 @@ fn bit(flag: bool) -> u16
 }
 
 // The words of a link's block.
+#[tactic(auto, unfolding(crate::specs::Control::made_of))]
 fn made(link: Link, size: u16, flag: bool, count: u8) -> Words
     ensures { result ≡ made_of link size flag count }
 {

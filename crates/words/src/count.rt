@@ -3,6 +3,7 @@ ghost use Rattle.std.specs.Prelude.{◌≡◌};
 ghost use Rattle.words.specs.Count.{next_number, next_distribution, same_distribution, next_acquisition, same_acquisition};
 
 // The step from one count to the next: 1 to 255, then 1 again. 0, the Reset's, comes before 1.
+#[tactic(auto, unfolding(crate::specs::Count::next_number))]
 fn next_number(n: u8) -> u8
     ensures { result ≡ next_number n }
 {
@@ -10,7 +11,7 @@ fn next_number(n: u8) -> u8
 }
 
 // The count of Tables 8-3 and 8-4.
-#[derive(Drop)]
+#[derive(Clone, Copy)]
 pub struct DistributionCount(pub u8);
 
 impl DistributionCount {
@@ -28,7 +29,7 @@ impl DistributionCount {
 }
 
 // The count of Tables 8-5 and 8-6.
-#[derive(Drop)]
+#[derive(Clone, Copy)]
 pub struct AcquisitionCount(pub u8);
 
 impl AcquisitionCount {

@@ -6,6 +6,7 @@ use crate::answer::Answer;
 use crate::link::Link;
 
 // Refusal 3: a block, or a size asked about, of 0 bytes or over the link's largest.
+#[tactic(auto, unfolding(crate::specs::Cutting::size_answer_of))]
 pub fn size_answer(link: Link, size: usize) -> Answer
     ensures { result ≡ size_answer_of link size }
 {
@@ -19,6 +20,7 @@ pub fn size_answer(link: Link, size: usize) -> Answer
 }
 
 // How many messages a block of `size` bytes has.
+#[tactic(auto, unfolding(crate::specs::Cutting::messages_of))]
 pub fn messages(size: u16) -> u16
     ensures { result ≡ messages_of size }
 {
@@ -32,6 +34,7 @@ fn least(a: u16, b: u16) -> u16
 }
 
 // How many words message k has, from 0; none past the last.
+#[tactic(auto, unfolding(crate::specs::Cutting::message_words_of))]
 pub fn message_words(size: u16, k: u16) -> u16
     ensures { result ≡ message_words_of size k }
 {
@@ -42,6 +45,7 @@ pub fn message_words(size: u16, k: u16) -> u16
 }
 
 // Where message k goes, or comes from; 0 where mode 0 has no such subaddress.
+#[tactic(auto, unfolding(crate::specs::Cutting::message_subaddress_of))]
 pub fn message_subaddress(link: Link, k: u16) -> u8
     ensures { result ≡ message_subaddress_of link k }
 {
@@ -55,6 +59,7 @@ pub fn message_subaddress(link: Link, k: u16) -> u8
 }
 
 // Whether the link's data messages use a subaddress.
+#[tactic(auto, unfolding(crate::specs::Cutting::uses_of))]
 fn uses(link: Link, subaddress: u8) -> bool
     ensures { result ≡ uses_of link subaddress }
 {
@@ -68,6 +73,7 @@ fn uses(link: Link, subaddress: u8) -> bool
 }
 
 // Refusal 19: a data message of 0 or over 32 words, or to a subaddress the link does not use.
+#[tactic(auto, unfolding(crate::specs::Cutting::data_answer_of))]
 pub fn data_answer(link: Link, subaddress: u8, words: usize) -> Answer
     ensures { result ≡ data_answer_of link subaddress words }
 {

@@ -1,5 +1,7 @@
 // Words on the bus: what one link of the Data Block Transfer service sends and reads, as numbers
 // (document 01, "Words on the bus" and "The two machines"). No function here touches memory.
+#![tactic(auto)]
+
 pub mod answer;
 pub mod command;
 pub mod control;

@@ -2,7 +2,7 @@
 ghost use Rattle.std.specs.Prelude.{◌≡◌};
 ghost use Rattle.words.specs.Link.{mode_allows, in_ranges, configure_of, no_link, configured_of, message_store_of, block_store_of};
 
-#[derive(Drop)]
+#[derive(Clone, Copy)]
 pub struct Link {
     pub address: u8,
     pub mode: u8,
@@ -12,13 +12,14 @@ pub struct Link {
 }
 
 // A link within the ranges, or refusal 20.
-#[derive(Drop)]
+#[derive(Clone, Copy)]
 pub enum Configuring {
     Configured(Link),
     Refused(u8),
 }
 
 // Whether a mode has this subaddress and this largest block.
+#[tactic(auto, unfolding(crate::specs::Link::mode_allows))]
 fn mode_allows(mode: u32, subaddress: u32, largest: u32) -> bool
     ensures { result ≡ mode_allows mode subaddress largest }
 {
@@ -47,6 +48,7 @@ fn mode_allows(mode: u32, subaddress: u32, largest: u32) -> bool
 }
 
 // Whether five numbers are a configuration.
+#[tactic(auto, unfolding(crate::specs::Link::in_ranges))]
 fn in_ranges(address: u32, mode: u32, subaddress: u32, largest: u32, window: u32) -> bool
     ensures { result ≡ in_ranges address mode subaddress largest window }
 {
@@ -63,6 +65,7 @@ fn in_ranges(address: u32, mode: u32, subaddress: u32, largest: u32, window: u32
 }
 
 // The link of five numbers of any size.
+#[tactic(auto, unfolding(crate::specs::Link::configure_of))]
 pub fn configure(address: u32, mode: u32, subaddress: u32, largest: u32, window: u32) -> Configuring
     ensures { result ≡ configure_of address mode subaddress largest window }
 {
@@ -92,6 +95,7 @@ pub fn no_link() -> Link
 }
 
 // Whether a link's numbers, wherever they come from, are a configuration.
+#[tactic(auto, unfolding(crate::specs::Link::configured_of))]
 pub fn is_configured(link: Link) -> bool
     ensures { result ≡ configured_of link }
 {
@@ -105,6 +109,7 @@ pub fn is_configured(link: Link) -> bool
 }
 
 // The bytes of a receiver's message store.
+#[tactic(auto, unfolding(crate::specs::Link::message_store_of))]
 pub fn message_store(link: Link) -> usize
     ensures { result ≡ message_store_of link }
 {
@@ -112,6 +117,7 @@ pub fn message_store(link: Link) -> usize
 }
 
 // The bytes of a sender's block store, and of a receiver's hand.
+#[tactic(auto, unfolding(crate::specs::Link::block_store_of))]
 pub fn block_store(link: Link) -> usize
     ensures { result ≡ block_store_of link }
 {

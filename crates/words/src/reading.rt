@@ -11,6 +11,7 @@ use crate::count::{AcquisitionCount, DistributionCount};
 use crate::link::Link;
 
 // SIZE: 12 bits, 0 reads as 4096.
+#[tactic(auto, unfolding(crate::specs::Reading::size_of))]
 fn size_field(first: u16) -> u16
     ensures { result ≡ size_of first }
 {
@@ -19,6 +20,7 @@ fn size_field(first: u16) -> u16
 }
 
 // Refusal 9, and what words without Reset say.
+#[tactic(auto, unfolding(crate::specs::Reading::plain_of))]
 fn plain(words: Words, link: Link) -> Control
     ensures { result ≡ plain_of words link }
 {
@@ -36,6 +38,7 @@ fn plain(words: Words, link: Link) -> Control
 }
 
 // Refusals 7 to 9, the lowest first; a well-formed Reset skips 9.
+#[tactic(auto, unfolding(crate::specs::Reading::control_of))]
 fn control(words: Words, link: Link) -> Control
     ensures { result ≡ control_of words link }
 {
@@ -55,6 +58,7 @@ fn control(words: Words, link: Link) -> Control
 }
 
 // Refusals 6 to 9 for the words of a message.
+#[tactic(auto, unfolding(crate::specs::Reading::read_of))]
 fn read(words: &[u16], link: Link) -> Control
     ensures { result ≡ read_of words.now link }
 {
@@ -69,6 +73,7 @@ fn read(words: &[u16], link: Link) -> Control
 }
 
 // A size over `limit`, on a link whose largest block is `limit`.
+#[tactic(auto, unfolding(crate::specs::Reading::over_of))]
 fn over(largest: u16, limit: u16, size: u16) -> bool
     ensures { result ≡ over_of largest limit size }
 {
@@ -79,6 +84,7 @@ fn over(largest: u16, limit: u16, size: u16) -> bool
 }
 
 // Refusals 10 to 12 of a descriptor or a request, whose words passed 6 to 9.
+#[tactic(auto, unfolding(crate::specs::Reading::sized_of))]
 fn sized(control: Control, link: Link) -> Control
     ensures { result ≡ sized_of control link }
 {
@@ -101,6 +107,7 @@ fn sized(control: Control, link: Link) -> Control
 }
 
 // What a message to SA 27R says.
+#[tactic(auto, unfolding(crate::specs::Reading::read_descriptor_of))]
 pub fn read_descriptor(words: &[u16], link: Link) -> Descriptor
     ensures { result ≡ read_descriptor_of words.now link }
 {
@@ -117,6 +124,7 @@ pub fn read_descriptor(words: &[u16], link: Link) -> Descriptor
 }
 
 // Whether two words are both zero.
+#[tactic(auto, unfolding(crate::specs::Reading::nothing_yet_of))]
 fn nothing_yet(words: &[u16]) -> bool
     ensures { result ≡ nothing_yet_of words.now }
 {
@@ -133,6 +141,7 @@ fn nothing_yet(words: &[u16]) -> bool
 }
 
 // What a read of 28T says.
+#[tactic(auto, unfolding(crate::specs::Reading::read_request_of))]
 pub fn read_request(words: &[u16], link: Link) -> Request
     ensures { result ≡ read_request_of words.now link }
 {
@@ -152,6 +161,7 @@ pub fn read_request(words: &[u16], link: Link) -> Request
 }
 
 // What a read of 27T says.
+#[tactic(auto, unfolding(crate::specs::Reading::read_distribution_confirmation_of))]
 pub fn read_distribution_confirmation(words: &[u16], link: Link) -> DistributionConfirmation
     ensures { result ≡ read_distribution_confirmation_of words.now link }
 {
@@ -168,6 +178,7 @@ pub fn read_distribution_confirmation(words: &[u16], link: Link) -> Distribution
 }
 
 // What a message to SA 28R says.
+#[tactic(auto, unfolding(crate::specs::Reading::read_acquisition_confirmation_of))]
 pub fn read_acquisition_confirmation(words: &[u16], link: Link) -> AcquisitionConfirmation
     ensures { result ≡ read_acquisition_confirmation_of words.now link }
 {

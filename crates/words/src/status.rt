@@ -3,13 +3,14 @@ ghost use Rattle.std.specs.Prelude.{◌≡◌};
 ghost use Rattle.words.specs.Status.{outcome_of};
 
 // What became of a message, as far as the controller can tell.
-#[derive(Drop)]
+#[derive(Clone, Copy)]
 pub enum Outcome {
     Done,
     NoReply,
 }
 
 // Whether a status word came, the word, the terminal's address, the words asked of the terminal and those that came.
+#[tactic(auto, unfolding(crate::specs::Status::outcome_of))]
 pub fn read_status(
     came: bool,
     status: u16,
