@@ -117,7 +117,17 @@ def turn(text, table):
     return WORD.sub(lambda m: table.get(m.group(1), m.group(1)), text)
 
 
+def foreign(text):
+    """The names that a file brings from a library that is none of this repository's crates."""
+    for m in re.finditer(r"use ([\w.+]+)\.\{([^}]*)\}", text):
+        module = m.group(1).split(".")
+        if module[0] != "Rattle" or not os.path.isdir(os.path.join("crates", module[1])):
+            yield from re.split(r"[,\s]+", m.group(2))
+
+
 def turned(path, text, table):
+    kept = set(foreign(text))
+    table = {old: new for old, new in table.items() if old not in kept}
     if path.endswith("/Proof.antt"):
         text = CALL.sub(lambda m: "." + m.group(1).replace("-", "_"), text)
     if path.endswith(".antt"):

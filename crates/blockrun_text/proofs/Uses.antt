@@ -5,7 +5,7 @@ use mathlib.Core.Bool.{true, false, not}
 use mathlib.Core.List.{List, [], ◌∷◌, ◌++◌}
 use Prim.Native.Nat.{ℕ, zero, suc, min, ◌+◌, ◌-◌, ◌/◌, ◌%◌, ◌≤◌, ◌<◌}
 use native.Mathlib.Omega.{arith}
-use borrow.Author.Tests.{ltb-false, eqb-true, not_false}
+use borrow.Author.Tests.{ltb-false, eqb-true, not-false}
 use lib.Dec.{eqb, ltb}
 use lib.ListN.{length, take, drop, get_or, length-drop}
 use Rattle.words.specs.declared.control.Quality.{Quality}
@@ -101,10 +101,10 @@ module _ (line : List ℕ) (quality : Quality) (at digits : ℕ) where
       by (not (all_digits (drop 7 line))) (λ e3. no_send (simp (e1, e2, e3) at h)) (λ e3.
       let w = simp (e1, e2, e3) at h in
       let l = ltb-false (length line) 7 e1 in
-      let v = eqb-true ((length line - 7) % 2) 0 (not_false _ e2) in
+      let v = eqb-true ((length line - 7) % 2) 0 (not-false _ e2) in
       let a : at ≡ 7 = cc in
       let n : digits ≡ length line - 7 = cc in
-      record { start = a; whole = omega arith; even = rw n v; hex = rw a (not_false _ e3) })))
+      record { start = a; whole = omega arith; even = rw n v; hex = rw a (not-false _ e3) })))
 
   five_not : {G : Type 0} (len : ℕ) (p q r s t : Number) → five_of len p q r s t ≡ Send quality at digits → G
   unfolding five_of

@@ -5,7 +5,7 @@ use mathlib.Core.Path.{◌≡◌}
 use mathlib.Core.Bool.{Bool, true, false, cond, not, ◌||◌}
 use native.Mathlib.Omega.{arith}
 use lib.Dec.{leb, ltb}
-use borrow.Author.Tests.{not_false, ltb-false, leb-false}
+use borrow.Author.Tests.{not-false, ltb-false, leb-false}
 use Rattle.words.specs.Link.{configured_of, block_store_of}
 use Rattle.words.specs.Cutting.{size_answer_of}
 use Rattle.words.specs.declared.answer.Answer.{Answer}
@@ -40,7 +40,7 @@ unfolding short_of block_store_of
 long link store e =
     by (not (configured_of link)) (λ n. absurd (let f = rw n at e in let z : ◌≡◌ {A = ℕ} 0 1 = cc in omega arith)) (λ n.
     by (ltb store link.largest) (λ s. absurd (let f = rw (n, s) at e in let z : ◌≡◌ {A = ℕ} 0 1 = cc in omega arith))
-    (λ s. record { configured = not_false _ n; most = ltb-false store link.largest s }))
+    (λ s. record { configured = not-false _ n; most = ltb-false store link.largest s }))
 
 pub record Admitted (c : Controller) (n m : ℕ) : Type 0 where
   pub store : Long c.link m
@@ -64,7 +64,7 @@ admitted c size store e =
     let f = rw (s, a) at e in
     record {
       store = long c.link store s;
-      accepted = not_false _ a;
+      accepted = not-false _ a;
       size = sized c.link size (then_first (size_answer_of c.link size) (room_answer_of c) f);
       room = roomy c (then_rest (size_answer_of c.link size) (room_answer_of c) f);
     }))

@@ -8,7 +8,7 @@ use native.Mathlib.Omega.{arith}
 use lib.Dec.{eqb, ltb, leb}
 use lib.ListN.{length, take, length-take}
 use lib.Seq.{sets, take_all}
-use borrow.Author.Tests.{not_false, ltb-false, leb-true, eqb-true, eqb-false}
+use borrow.Author.Tests.{not-false, ltb-false, leb-true, eqb-true, eqb-false}
 use Rattle.words.specs.Bytes.{bytes_of}
 use Rattle.words.specs.Link.{configured_of, message_store_of}
 use Rattle.words.specs.Cutting.{data_answer_of, uses_of}
@@ -33,7 +33,7 @@ unfolding store_short
 long link store e =
     by (not (configured_of link)) (λ n. absurd (let f = rw n at e in let z : ◌≡◌ {A = ℕ} 0 1 = cc in omega arith)) (λ n.
     by (ltb store (message_store_of link)) (λ s. absurd (let f = rw (n, s) at e in let z : ◌≡◌ {A = ℕ} 0 1 = cc in omega arith))
-    (λ s. record { configured = not_false _ n; most = ltb-false store (message_store_of link) s }))
+    (λ s. record { configured = not-false _ n; most = ltb-false store (message_store_of link) s }))
 
 pub record Message (link : Link) (subaddress n : ℕ) : Type 0 where
   pub some : 1 ≤ n
@@ -46,7 +46,7 @@ message link subaddress n e =
     by (eqb n 0) (λ z. absurd (not_accepted 19 (rw z at e))) (λ z.
     by (ltb 32 n) (λ m. absurd (not_accepted 19 (rw (z, m) at e))) (λ m.
     by (not (uses_of link subaddress)) (λ u. absurd (not_accepted 19 (rw (z, m, u) at e)))
-    (λ u. record { some = some_is z; few = ltb-false 32 n m; used = not_false _ u })))
+    (λ u. record { some = some_is z; few = ltb-false 32 n m; used = not-false _ u })))
   where
     some_is : eqb n 0 ≡ false → 1 ≤ n
     some_is z = let ne : n ≡ 0 → ⊥ = eqb-false n 0 z in omega arith

@@ -1,6 +1,6 @@
 -- Bounds that follow from the definitions alone.
 -- Assumes nothing.
-use Rattle.std.proofs.Common.{ℕ, ◌≤◌, Bool, true, false, lit≤}
+use Rattle.std.proofs.Common.{◌≤◌, Bool, true, false, lit≤}
 use Rattle.words.specs.Control.{bit_of}
 
 pub bit_le : (flag : Bool) → bit_of flag ≤ 1

@@ -1,6 +1,6 @@
 -- Laws of words and bytes.
 -- Assumes nothing.
-use Rattle.std.proofs.Common.{◌≡◌, ℕ, zero, suc, ◌+◌, ◌*◌, ◌/◌, ◌%◌, ◌<◌, List, [], ◌∷◌, ◌++◌, length, get_or, take, drop, replicate, refl, ap, arith}
+use Rattle.std.proofs.Common.{◌≡◌, ℕ, zero, suc, ◌+◌, ◌*◌, ◌/◌, ◌%◌, ◌<◌, List, [], ◌∷◌, ◌++◌, length, take, drop, replicate, refl, ap, arith}
 use Rattle.words.specs.Bytes.{bytes_of, words_of, filler, Octets}
 
 pub length_bytes_of : (ws : List ℕ) → length (bytes_of ws) ≡ 2 * length ws

@@ -1,9 +1,9 @@
 -- Cutting, shown once over the block for both modes.
 -- Assumes nothing.
-use Rattle.std.proofs.Common.{◌≡◌, ℕ, zero, suc, ◌+◌, ◌-◌, ◌*◌, ◌/◌, ◌%◌, ◌<◌, ◌≤◌, min, List, [], ◌∷◌, ◌++◌, length, get_or, take, drop, replicate, sym, refl, ap, ◌∙◌, arith, length-drop, drop_of_length-le, length-take, drop-drop, eq-eqb}
+use Rattle.std.proofs.Common.{◌≡◌, ℕ, zero, suc, ◌+◌, ◌*◌, ◌<◌, ◌≤◌, List, length, get_or, take, drop, refl, ap, ◌∙◌, arith, length-drop, drop_of_length-le, length-take, drop-drop, eq-eqb}
 use borrow.Author.Tests.{lt-leb}
-use Rattle.words.specs.Bytes.{bytes_of, words_of, filler, Octets}
-use Rattle.words.specs.Cutting.{Message, part_of, message_of, messages_from, cut_of, messages_of, message_words_of, message_subaddress_of}
+use Rattle.words.specs.Bytes.{words_of}
+use Rattle.words.specs.Cutting.{part_of, message_of, messages_from, cut_of, messages_of, message_words_of, message_subaddress_of}
 use Rattle.words.specs.Cut.{Cut, end_to_end, no_message}
 use Rattle.words.specs.declared.link.Link.{Link}
 use Rattle.words.proofs.Bytes.{length_words_of, bytes_words, words_split}

@@ -1,9 +1,8 @@
 -- What a descriptor that was not refused says: its size is one that the link takes, and its count is not 0.
 -- Assumes nothing.
-use Rattle.std.proofs.Common.{◌≡◌, ℕ, ◌/◌, ◌%◌, ◌<◌, ◌≤◌, Bool, true, false, cond, not, ◌&&◌, eqb, ltb, ◌⊎◌, List, length, get_or, sym, refl, ap, ◌∙◌, inl, inr, arith, lit≤, ltb-false, eq-eqb}
+use Rattle.std.proofs.Common.{◌≡◌, ℕ, ◌/◌, ◌%◌, ◌≤◌, true, false, not, eqb, ◌⊎◌, List, length, get_or, ap, inl, inr, arith, lit≤, ltb-false, eq-eqb}
 use borrow.Author.Tests.{eqb-false}
-use Rattle.words.specs.Link.{configured_of, in_ranges, mode_allows}
-use Rattle.words.specs.Control.{quality_of}
+use Rattle.words.specs.Link.{configured_of}
 use Rattle.words.specs.Reading.{size_of, over_of, plain_of, control_of, read_of, sized_of, descriptor_of, read_descriptor_of}
 use Rattle.words.specs.declared.link.Link.{Link}
 use Rattle.words.specs.declared.count.DistributionCount.{DistributionCount}

@@ -1,6 +1,6 @@
 -- What a configuration's test says of its numbers.
 -- Assumes nothing.
-use Rattle.std.proofs.Common.{◌≡◌, ℕ, ◌≤◌, Bool, true, false, cond, ◌&&◌, ◌||◌, eqb, leb, ◌⊎◌, refl, inl, inr, arith, eqb-true, leb-true}
+use Rattle.std.proofs.Common.{◌≡◌, ℕ, ◌≤◌, Bool, true, false, ◌&&◌, ◌||◌, eqb, leb, ◌⊎◌, refl, inl, inr, arith, eqb-true, leb-true}
 use Rattle.words.specs.Link.{mode_allows, in_ranges, configured_of}
 use Rattle.words.specs.declared.link.Link.{Link}
 

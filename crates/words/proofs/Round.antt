@@ -1,12 +1,11 @@
 -- Reading what was made gives back what went in, on every link and in all four tables; so what is refused is never made.
 -- Assumes nothing.
-use Rattle.std.proofs.Common.{◌≡◌, ℕ, ◌+◌, ◌*◌, ◌/◌, ◌%◌, ◌<◌, ◌≤◌, Bool, true, false, cond, not, ◌&&◌, ◌||◌, eqb, ltb, ◌⊎◌, get_or, sym, refl, ap, ◌∙◌, inl, inr, ⊎_elim, eq-or-lt_of_le, arith, ltb-false, le-ltb, eq-eqb, ne_eqb, eqb-true}
+use Rattle.std.proofs.Common.{◌≡◌, ℕ, ◌+◌, ◌*◌, ◌/◌, ◌%◌, ◌<◌, ◌≤◌, Bool, true, false, eqb, ltb, ◌⊎◌, refl, inl, inr, ⊎_elim, eq-or-lt_of_le, arith, ltb-false, le-ltb, eq-eqb, ne_eqb, eqb-true}
 use borrow.Author.Tests.{eqb-false}
 use Rattle.words.specs.Allowed.{Allowed}
-use Rattle.words.specs.Link.{configured_of}
 use Rattle.words.specs.Cutting.{size_answer_of}
 use Rattle.words.specs.Control.{bit_of, verified_of, quality_of, made_of, reset_words, list_of, descriptor_words, request_words, distribution_confirmation_words, acquisition_confirmation_words}
-use Rattle.words.specs.Reading.{size_of, over_of, plain_of, control_of, read_of, sized_of, nothing_yet_of, descriptor_of, request_of, distribution_confirmation_of, acquisition_confirmation_of}
+use Rattle.words.specs.Reading.{size_of, over_of, plain_of, control_of, read_of, sized_of, nothing_yet_of}
 use Rattle.words.specs.Reading.{read_descriptor_of, read_request_of, read_distribution_confirmation_of, read_acquisition_confirmation_of}
 use Rattle.words.specs.declared.answer.Answer.TheVariants as Answer
 use Rattle.words.specs.declared.answer.Answer.TheVariants.{Accepted}
@@ -14,7 +13,6 @@ use Rattle.words.specs.declared.count.DistributionCount.{DistributionCount}
 use Rattle.words.specs.declared.count.AcquisitionCount.{AcquisitionCount}
 use Rattle.words.specs.declared.link.Link.{Link}
 use Rattle.words.specs.declared.control.Words.{Words}
-use Rattle.words.specs.declared.control.Control.{Control}
 use Rattle.words.specs.declared.control.Control.TheVariants.{Reset, Block, Refused}
 use Rattle.words.specs.declared.control.Quality.{Quality}
 use Rattle.words.specs.declared.control.Quality.TheVariants.{BestEffort, Verified}

@@ -30,6 +30,7 @@ same_sound (x ∷ xs) (y ∷ ys) t =
     ap₂ ◌∷◌ (eqb→eq x y (and_left (eqb x y) (same xs ys) t)) (same_sound xs ys (and_right (eqb x y) (same xs ys) t))
 
 pub at : (rs : List Row) → T (every rs) → (r : Row) → Memᴰ r rs → r.given ≡ r.paper
+at [] t r x'' = elim x'' [ ]
 at (x ∷ rs) t r (Memᴰ.head e) =
     ap (λ (y : Row). y.given) e ∙ same_sound x.given x.paper (and_left (same x.given x.paper) (every rs) t)
     ∙ ap (λ (y : Row). y.paper) (sym e)

@@ -1,6 +1,6 @@
 -- The Reset command of the acquisition protocol (001 Tables 8-9 and 8-10): the second word to SA 1R, bit 15.
 -- Assumes nothing.
-use Rattle.std.specs.Prelude.{ℕ, ◌%◌, Bool, cond, ◌||◌, List, [], ◌∷◌, length, ◌==◌, nat_lt, slice_index}
+use Rattle.std.specs.Prelude.{ℕ, ◌%◌, cond, ◌||◌, List, [], ◌∷◌, length, ◌==◌, nat_lt, slice_index}
 use Rattle.words.specs.declared.control.Words.{Words}
 use Rattle.words.specs.declared.command.Command.{Command}
 use Rattle.words.specs.declared.command.Command.TheVariants.{Reset, Other, Refused}

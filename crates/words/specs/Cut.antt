@@ -1,8 +1,8 @@
 -- What cutting promises of every block, on every link, in both modes (document 01, "Words on the bus").
 -- Assumes nothing.
-use Rattle.std.specs.Prelude.{◌≡◌, ℕ, ◌+◌, ◌/◌, ◌%◌, ◌<◌, ◌≤◌, true, List, [], ◌∷◌, ◌++◌, length, replicate, slice_index_or}
+use Rattle.std.specs.Prelude.{◌≡◌, ℕ, ◌+◌, ◌/◌, ◌%◌, ◌<◌, ◌≤◌, List, [], ◌∷◌, ◌++◌, length, replicate, slice_index_or}
 use Rattle.words.specs.Bytes.{bytes_of, filler, Octets}
-use Rattle.words.specs.Cutting.{Message, cut_of, messages_of, message_words_of}
+use Rattle.words.specs.Cutting.{Message, cut_of, message_words_of}
 use Rattle.words.specs.declared.link.Link.{Link}
 
 -- the words of messages, laid end to end

@@ -1,6 +1,6 @@
 -- Reading the words of Tables 8-3, 8-4, 8-5 and 8-6 (document 01, "Numbers a caller may get back"): the lowest number first.
 -- Assumes nothing.
-use Rattle.std.specs.Prelude.{ℕ, ◌+◌, ◌*◌, ◌/◌, ◌%◌, Bool, true, false, cond, not, ◌&&◌, List, [], ◌∷◌, length, ◌==◌, nat_lt, slice_index}
+use Rattle.std.specs.Prelude.{ℕ, ◌/◌, ◌%◌, Bool, cond, not, ◌&&◌, List, [], ◌∷◌, length, ◌==◌, nat_lt, slice_index}
 use Rattle.words.specs.Control.{quality_of, verified_of, bit_of}
 use Rattle.words.specs.Count.{distribution_count, acquisition_count}
 use Rattle.words.specs.declared.link.Link.{Link}
