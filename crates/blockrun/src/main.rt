@@ -3,6 +3,8 @@
 
 mod turns;
 
-fn main() {
-    turns::answer_input();
+use std::io;
+
+fn main(rt: HostRuntime) -> io::Result<()> {
+    turns::answer_input(&mut rt.stdin(), &mut rt.stdout())
 }

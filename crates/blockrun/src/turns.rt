@@ -1,10 +1,11 @@
 // Input of any length through a buffer: what one read brought is answered by one write, so that a person sees each answer at once.
 // A line over 16384 bytes is of another form; it is passed over and loses nothing behind it.
-ghost use Rattle.std.specs.Prelude.{◌≡◌, ◌+◌, ◌≤◌, length};
+ghost use Rattle.std.specs.Prelude.{◌≡◌, ◌+◌, ◌≤◌, length, IfOk};
 
 use blockrun_lines::answer::Answered;
 use dist_pair::state::Pair;
-use libc::{STDIN_FILENO, STDOUT_FILENO};
+use std::io;
+use std::io::{Read, Write};
 
 // The link, the number of the last line, and how many bytes of answers wait in the output buffer.
 #[derive(Clone, Copy)]
@@ -48,23 +49,24 @@ fn room_space() -> [u8; 8192]
 }
 
 // Answers that wait are written.
-fn flushed(out: &[u8], at: usize) -> usize
+fn flushed(output: &mut impl Write, out: &[u8], at: usize) -> io::Result<usize>
     requires { at ≤ length out.now }
-    ensures { result ≡ 0 }
+    ensures { IfOk result (λ n. n ≡ 0) }
 {
-    io::write_all(STDOUT_FILENO, &out[0..at]);
-    0
+    output.write_all(&out[0..at])?;
+    output.flush()?;
+    Ok(0)
 }
 
 // No answer is longer than 16384 bytes: with less room than that the buffer is written first.
-fn with_room(out: &[u8], at: usize) -> usize
+fn with_room(output: &mut impl Write, out: &[u8], at: usize) -> io::Result<usize>
     requires { at ≤ length out.now }
-    ensures { result ≤ length out.now }
+    ensures { IfOk result (λ n. n ≤ length out.now) }
 {
     if 16384 <= out.len() - at {
-        return at;
+        return Ok(at);
     }
-    flushed(out, at)
+    flushed(output, out, at)
 }
 
 // One line, whole or, where `long`, only its end.
@@ -77,43 +79,46 @@ fn one_line(
     hand: &mut [u8],
     room: &mut [u8],
     out: &mut [u8],
-) -> Run
+    output: &mut impl Write,
+) -> io::Result<Run>
     requires { r.at ≤ length out.old }
-    ensures { (result.at ≤ length out.new) × (length out.new ≡ length out.old) }
+    ensures place { IfOk result (λ s. s.at ≤ length out.new) }
+    ensures same_length { length out.new ≡ length out.old }
 {
     let number = std::num::wrapping_add_u64(r.number, 1);
     let pair = r.pair;
-    let at = with_room(out, r.at);
+    let at = with_room(output, out, r.at)?;
     if long {
-        return answered(
+        return Ok(answered(
             blockrun_lines::line::other_line(pair, number, out, at),
             number,
-        );
+        ));
     }
     if 16384 < line.len() {
-        return answered(
+        return Ok(answered(
             blockrun_lines::line::other_line(pair, number, out, at),
             number,
-        );
+        ));
     }
-    answered(
+    Ok(answered(
         blockrun_lines::line::answer_line(pair, number, line, store, places, hand, room, out, at),
         number,
-    )
+    ))
 }
 
 // A line that is a whole `frame`.
-fn one_frame(r: Run, out: &mut [u8]) -> Run
+fn one_frame(r: Run, out: &mut [u8], output: &mut impl Write) -> io::Result<Run>
     requires { r.at ≤ length out.old }
-    ensures { (result.at ≤ length out.new) × (length out.new ≡ length out.old) }
+    ensures place { IfOk result (λ s. s.at ≤ length out.new) }
+    ensures same_length { length out.new ≡ length out.old }
 {
     let number = std::num::wrapping_add_u64(r.number, 1);
     let pair = r.pair;
-    let at = with_room(out, r.at);
-    answered(
+    let at = with_room(output, out, r.at)?;
+    Ok(answered(
         blockrun_lines::line::frame_line(pair, number, out, at),
         number,
-    )
+    ))
 }
 
 fn answered(a: Answered, number: u64) -> Run
@@ -142,13 +147,12 @@ fn to_front(s: &mut [u8], from: usize, to: usize) -> usize
 }
 
 // Reads once into the part of the buffer behind `have`.
-fn read_behind(buffer: &mut [u8], have: usize) -> usize
+fn read_behind(input: &mut impl Read, buffer: &mut [u8], have: usize) -> io::Result<usize>
     requires { have ≤ length buffer.old }
-    ensures { (have + result ≤ length buffer.new) × (length buffer.new ≡ length buffer.old) }
+    ensures within { IfOk result (λ got. have + got ≤ length buffer.new) }
+    ensures same_length { length buffer.new ≡ length buffer.old }
 {
-    let part = &mut buffer[have..];
-    let got = libc::read(STDIN_FILENO, part);
-    io::count(got, part)
+    input.read(&mut buffer[have..])
 }
 
 // The lines end, for now, at `have`.
@@ -172,9 +176,11 @@ fn all_lines(
     hand: &mut [u8],
     room: &mut [u8],
     out: &mut [u8],
-) -> Held
+    output: &mut impl Write,
+) -> io::Result<Held>
     requires { h.run.at ≤ length out.old }
-    ensures { (result.run.at ≤ length out.new) × ((result.have ≤ length lines.now) × (length out.new ≡ length out.old)) }
+    ensures places { IfOk result (λ s. (s.run.at ≤ length out.new) × (s.have ≤ length lines.now)) }
+    ensures same_length { length out.new ≡ length out.old }
 {
     let mut run = h.run;
     let mut long = h.long;
@@ -182,37 +188,47 @@ fn all_lines(
     while from < lines.len() {
         if !long {
             if blockrun_text::split::frame_at(lines, from) {
-                run = one_frame(run, out);
+                run = one_frame(run, out, output)?;
                 from += 6;
                 continue;
             }
         }
         let end = blockrun_text::split::line_end(lines, from);
         if lines.len() <= end {
-            return stopped(run, from, long, false);
+            return Ok(stopped(run, from, long, false));
         }
         if end < from {
-            return stopped(run, from, long, true);
+            return Ok(stopped(run, from, long, true));
         }
         let next = end + 1;
-        run = one_line(run, long, &lines[from..end], store, places, hand, room, out);
+        run = one_line(
+            run,
+            long,
+            &lines[from..end],
+            store,
+            places,
+            hand,
+            room,
+            out,
+            output,
+        )?;
         long = false;
         from = next;
     }
-    stopped(run, from, long, false)
+    Ok(stopped(run, from, long, false))
 }
 
 // What waits is written, and the run goes on with an empty output buffer.
-fn written(r: Run, out: &[u8]) -> Run
+fn written(r: Run, out: &[u8], output: &mut impl Write) -> io::Result<Run>
     requires { r.at ≤ length out.now }
-    ensures { result.at ≡ 0 }
+    ensures { IfOk result (λ s. s.at ≡ 0) }
 {
     let pair = r.pair;
-    Run {
+    Ok(Run {
         pair,
         number: r.number,
-        at: flushed(out, r.at),
-    }
+        at: flushed(output, out, r.at)?,
+    })
 }
 
 // Where what is to be answered ends, after a read of `got` bytes behind `have`. At the end of input an unfinished line is a line:
@@ -237,58 +253,70 @@ fn closed(buffer: &mut [u8], have: usize, got: usize, long: bool) -> usize
 }
 
 // All is written; an unfinished line goes to the front, or is passed over where it is too long.
-fn carry_on(h: Held, ended: bool, buffer: &mut [u8], to: usize, out: &[u8]) -> Held
+fn carry_on(
+    h: Held,
+    ended: bool,
+    buffer: &mut [u8],
+    to: usize,
+    out: &[u8],
+    output: &mut impl Write,
+) -> io::Result<Held>
     requires { ((h.have ≤ to) × (to ≤ length buffer.old)) × (h.run.at ≤ length out.now) }
-    ensures { ((result.have ≤ length buffer.new) × (result.run.at ≡ 0)) × (length buffer.new ≡ length buffer.old) }
+    ensures places { IfOk result (λ s. (s.have ≤ length buffer.new) × (s.run.at ≡ 0)) }
+    ensures same_length { length buffer.new ≡ length buffer.old }
 {
     let from = h.have;
     let rest = to_front(buffer, from, to);
-    let run = written(h.run, out);
+    let run = written(h.run, out, output)?;
     if 16384 < rest {
-        return Held {
+        return Ok(Held {
             run,
             have: 0,
             long: true,
             ended,
-        };
+        });
     }
-    Held {
+    Ok(Held {
         run,
         have: rest,
         long: h.long,
         ended,
-    }
+    })
 }
 
 // One read, its whole lines, one write.
 fn turn(
     h: Held,
+    input: &mut impl Read,
     buffer: &mut [u8],
     store: &mut [u8],
     places: &mut [u8],
     hand: &mut [u8],
     room: &mut [u8],
     out: &mut [u8],
-) -> Held
+    output: &mut impl Write,
+) -> io::Result<Held>
     requires { (h.have ≤ length buffer.old) × (h.run.at ≤ length out.old) }
-    ensures { ((result.have ≤ length buffer.new) × (result.run.at ≡ 0))
-        × ((length buffer.new ≡ length buffer.old) × (length out.new ≡ length out.old)) }
+    ensures places { IfOk result (λ s. (s.have ≤ length buffer.new) × (s.run.at ≡ 0)) }
+    ensures same_lengths { (length buffer.new ≡ length buffer.old) × (length out.new ≡ length out.old) }
 {
     let have = h.have;
-    let got = read_behind(buffer, have);
+    let got = read_behind(input, buffer, have)?;
     let to = closed(buffer, have, got, h.long);
-    let step = all_lines(h, &buffer[0..to], store, places, hand, room, out);
-    carry_on(step, got == 0, buffer, to, out)
+    let step = all_lines(h, &buffer[0..to], store, places, hand, room, out, output)?;
+    carry_on(step, got == 0, buffer, to, out, output)
 }
 
 fn all_turns(
+    input: &mut impl Read,
     buffer: &mut [u8],
     store: &mut [u8],
     places: &mut [u8],
     hand: &mut [u8],
     room: &mut [u8],
     out: &mut [u8],
-) {
+    output: &mut impl Write,
+) -> io::Result<()> {
     let pair = dist_pair::state::unconfigured();
     let run = Run {
         pair,
@@ -303,12 +331,13 @@ fn all_turns(
     };
     let mut turns = u64::MAX;
     while turns > 0 && !h.ended {
-        h = turn(h, buffer, store, places, hand, room, out);
+        h = turn(h, input, buffer, store, places, hand, room, out, output)?;
         turns -= 1;
     }
+    Ok(())
 }
 
-pub fn answer_input() {
+pub fn answer_input(input: &mut impl Read, output: &mut impl Write) -> io::Result<()> {
     let mut buffer = input_space();
     let mut out = output_space();
     let mut store = block_space();
@@ -316,11 +345,13 @@ pub fn answer_input() {
     let mut hand = block_space();
     let mut room = room_space();
     all_turns(
+        input,
         &mut buffer,
         &mut store,
         &mut places,
         &mut hand,
         &mut room,
         &mut out,
-    );
+        output,
+    )
 }
