@@ -1,0 +1,16 @@
+use Rattle.blockrun_text.proofs.Reading.{other_byte, a_digit, no_other}
+use Rattle.blockrun_text.specs.Hex.{all_digits}
+use borrow.Author.Rules.{rules}
+use mathlib.Core.Path.{◌≡◌}
+use Prim.Native.Nat.{◌-◌}
+use lib.ListN.{length, drop}
+use Rattle.blockrun_text.proofs.hex.all_digits.Goals as goal
+
+pub returns-then-not-is_digit : goal.returns-then-not-is_digit
+returns-then-not-is_digit c = search (rules, other_byte)
+
+pub loop-i-preserved : goal.loop-i-preserved
+loop-i-preserved c = search (rules, a_digit)
+
+pub returns : goal.returns
+returns c = search (rules, no_other)

@@ -1,0 +1,13 @@
+use Rattle.blockrun_text.proofs.Reading.{at_tab, too_low, too_high, next_digit, at_end}
+use Rattle.blockrun_text.specs.Numbers.{number_at, number_on}
+use borrow.Author.Rules.{rules}
+use mathlib.Core.Path.{◌≡◌, refl}
+use Prim.Native.Nat.{◌-◌, ◌≤◌}
+use lib.ListN.{length, drop}
+use Rattle.blockrun_text.proofs.number.number_at.Given as goal
+
+abbrev pub invariant-loop-i : goal.invariant-loop-i
+invariant-loop-i l = (l.value ≤ 100000) × (number_at l.line l.from ≡ number_on l.good l.value l.i (drop l.i l.line))
+
+abbrev pub decreases-loop-i : goal.decreases-loop-i
+decreases-loop-i l = length l.line - l.i
