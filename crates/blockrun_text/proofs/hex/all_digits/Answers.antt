@@ -1,9 +1,5 @@
 use Rattle.blockrun_text.proofs.Reading.{other_byte, a_digit, no_other}
-use Rattle.blockrun_text.specs.Hex.{all_digits}
 use borrow.Author.Rules.{rules}
-use mathlib.Core.Path.{◌≡◌}
-use Prim.Native.Nat.{◌-◌}
-use lib.ListN.{length, drop}
 use Rattle.blockrun_text.proofs.hex.all_digits.Goals as goal
 
 pub returns-then-not-is_digit : goal.returns-then-not-is_digit

@@ -1,6 +1,4 @@
-use Rattle.blockrun_text.proofs.Reading.{other_byte, a_digit, no_other}
 use Rattle.blockrun_text.specs.Hex.{all_digits}
-use borrow.Author.Rules.{rules}
 use mathlib.Core.Path.{◌≡◌}
 use Prim.Native.Nat.{◌-◌}
 use lib.ListN.{length, drop}

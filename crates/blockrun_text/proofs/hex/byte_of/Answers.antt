@@ -1,6 +1,5 @@
 use Rattle.blockrun_text.proofs.Reading.{digit_small}
 use native.Mathlib.Omega.{arith}
-use borrow.Author.Rules.{rules}
 use Rattle.blockrun_text.proofs.hex.byte_of.Goals as goal
 
 pub overflow_mul-result : goal.overflow_mul-result

@@ -1,14 +1,6 @@
 use Rattle.blockrun_text.proofs.Reading.{at_tab, too_low, too_high, next_digit, at_end}
-use Rattle.blockrun_text.specs.Numbers.{number_at, number_on}
 use borrow.Author.Rules.{rules}
-use mathlib.Core.Path.{◌≡◌, refl}
-use Prim.Native.Nat.{◌-◌, ◌≤◌}
-use lib.ListN.{length, drop}
 use Rattle.blockrun_text.proofs.number.number_at.Goals as goal
-
-pub loop-i-init : goal.loop-i-init
-unfolding number_at
-loop-i-init c = (search rules, refl)
 
 pub returns-then-x-eq9 : goal.returns-then-x-eq9
 returns-then-x-eq9 c = search (rules, at_tab)

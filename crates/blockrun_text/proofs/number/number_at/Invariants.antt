@@ -1,7 +1,5 @@
-use Rattle.blockrun_text.proofs.Reading.{at_tab, too_low, too_high, next_digit, at_end}
 use Rattle.blockrun_text.specs.Numbers.{number_at, number_on}
-use borrow.Author.Rules.{rules}
-use mathlib.Core.Path.{◌≡◌, refl}
+use mathlib.Core.Path.{◌≡◌}
 use Prim.Native.Nat.{◌-◌, ◌≤◌}
 use lib.ListN.{length, drop}
 use Rattle.blockrun_text.proofs.number.number_at.Given as goal

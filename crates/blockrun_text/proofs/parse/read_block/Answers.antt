@@ -7,7 +7,6 @@ use Rattle.blockrun_text.proofs.Reading.{no_field, field_is}
 use native.Mathlib.Omega.{arith}
 use mathlib.Core.Path.{◌≡◌, refl, ap, ◌∙◌}
 use Rattle.blockrun_text.specs.Hex.{block_size_of}
-use borrow.Author.Rules.{rules}
 use Rattle.blockrun_text.proofs.parse.read_block.Goals as goal
 
 pub returns-then-line-at : goal.returns-then-line-at

@@ -4,10 +4,7 @@ use Rattle.blockrun_text.proofs.Putting.{put_rest}
 use Rattle.blockrun_text.specs.Hex.{bytes_of}
 use borrow.Author.Rules.{rules}
 use native.Mathlib.Omega.{arith}
-use mathlib.Core.Path.{◌≡◌, sym, ◌∙◌}
-use Prim.Native.Nat.{◌-◌, ◌≤◌}
-use lib.ListN.{length, drop}
-use lib.Seq.{sets}
+use mathlib.Core.Path.{sym, ◌∙◌}
 use Rattle.blockrun_text.proofs.parse.read_digits.Goals as goal
 
 pub loop-i-preserved : goal.loop-i-preserved

@@ -1,10 +1,5 @@
-use Rattle.blockrun_text.proofs.Reading.{length_bytes_of, byte_at}
-use Rattle.stores.proofs.Runs.{turn}
-use Rattle.blockrun_text.proofs.Putting.{put_rest}
 use Rattle.blockrun_text.specs.Hex.{bytes_of}
-use borrow.Author.Rules.{rules}
-use native.Mathlib.Omega.{arith}
-use mathlib.Core.Path.{◌≡◌, sym, ◌∙◌}
+use mathlib.Core.Path.{◌≡◌}
 use Prim.Native.Nat.{◌-◌, ◌≤◌}
 use lib.ListN.{length, drop}
 use lib.Seq.{sets}

@@ -1,15 +1,8 @@
 use Rattle.blockrun_text.proofs.Digits.{pow_room, count_is}
 use Rattle.blockrun_text.specs.Printing.{decimal_of}
-use borrow.Author.Rules.{rules}
-use native.Mathlib.Nat.{pow-suc}
-use native.Mathlib.Numerals.{add-one}
 use native.Mathlib.Omega.{arith}
-use mathlib.Core.Path.{◌≡◌, refl}
-use Prim.Native.Nat.{◌-◌, ◌*◌, ◌^◌, ◌≤◌, ◌<◌}
+use mathlib.Core.Path.{◌≡◌}
 use Rattle.blockrun_text.proofs.print.digit_count.Goals as goal
-
-pub loop-k-init : goal.loop-k-init
-loop-k-init c = (omega arith, omega arith, refl, λ h. omega arith)
 
 pub returns-then-n-bound : goal.returns-then-n-bound
 unfolding decimal_of
@@ -20,11 +13,6 @@ returns-then-n-bound c =
 pub overflow_mul-bound : goal.overflow_mul-bound
 overflow_mul-bound c =
     omega (arith, c.loop-k.invariant.2, pow_room c.loop-k.k (omega arith))
-
-pub loop-k-preserved : goal.loop-k-preserved
-loop-k-preserved c =
-    let v = c.loop-k.invariant in
-    (omega arith, omega arith, rw (add-one c.loop-k.k) (omega (arith, v.2, pow-suc 10 c.loop-k.k)), λ h. omega arith)
 
 pub returns-then-n-bound-2 : goal.returns-then-n-bound-2
 unfolding decimal_of

@@ -1,10 +1,4 @@
-use Rattle.blockrun_text.proofs.Digits.{pow_room, count_is}
-use Rattle.blockrun_text.specs.Printing.{decimal_of}
-use borrow.Author.Rules.{rules}
-use native.Mathlib.Nat.{pow-suc}
-use native.Mathlib.Numerals.{add-one}
-use native.Mathlib.Omega.{arith}
-use mathlib.Core.Path.{◌≡◌, refl}
+use mathlib.Core.Path.{◌≡◌}
 use Prim.Native.Nat.{◌-◌, ◌*◌, ◌^◌, ◌≤◌, ◌<◌}
 use Rattle.blockrun_text.proofs.print.digit_count.Given as goal
 

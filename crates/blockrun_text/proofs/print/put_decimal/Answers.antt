@@ -2,7 +2,6 @@ use Rattle.blockrun_text.specs.Printing.{decimal_of}
 use Rattle.stores.proofs.Runs.{sets_out}
 use mathlib.Core.Path.{sym}
 use native.Mathlib.Omega.{arith}
-use borrow.Author.Rules.{rules}
 use Rattle.blockrun_text.proofs.print.put_decimal.Goals as goal
 
 pub returns-then-out-at : goal.returns-then-out-at

@@ -1,15 +1,9 @@
-use Rattle.blockrun_text.proofs.Digits.{last_of, put_last, put_all}
-use borrow.Author.Rules.{rules}
+use Rattle.blockrun_text.proofs.Digits.{put_last, put_all}
 use native.Mathlib.Omega.{arith}
-use mathlib.Core.Path.{◌≡◌, refl, ap, ◌∙◌}
-use mathlib.Core.List.{[]}
+use mathlib.Core.Path.{ap, ◌∙◌}
 use Prim.Native.Nat.{◌+◌, ◌-◌}
 use lib.ListN.{length, length-set}
-use lib.Seq.{sets}
 use Rattle.blockrun_text.proofs.print.put_digits.Goals as goal
-
-pub loop-i-init : goal.loop-i-init
-loop-i-init c = (refl, refl)
 
 pub loop-i-preserved : goal.loop-i-preserved
 loop-i-preserved c =

@@ -1,10 +1,7 @@
-use Rattle.blockrun_text.proofs.Digits.{last_of, put_last, put_all}
-use borrow.Author.Rules.{rules}
-use native.Mathlib.Omega.{arith}
-use mathlib.Core.Path.{◌≡◌, refl, ap, ◌∙◌}
+use Rattle.blockrun_text.proofs.Digits.{last_of}
+use mathlib.Core.Path.{◌≡◌}
 use mathlib.Core.List.{[]}
-use Prim.Native.Nat.{◌+◌, ◌-◌}
-use lib.ListN.{length, length-set}
+use lib.ListN.{length}
 use lib.Seq.{sets}
 use Rattle.blockrun_text.proofs.print.put_digits.Given as goal
 

@@ -1,10 +1,4 @@
-use lib.ListN.{drop_of_length-le}
-use lib.Seq.{length-take-le, get_or-take}
-use native.Mathlib.Nat.{add-zero}
-use Rattle.blockrun_text.proofs.Putting.{put_turn}
-use borrow.Author.Rules.{rules}
-use native.Mathlib.Omega.{arith}
-use mathlib.Core.Path.{◌≡◌, sym, ◌∙◌}
+use mathlib.Core.Path.{◌≡◌}
 use Prim.Native.Nat.{◌+◌, ◌-◌, ◌≤◌}
 use lib.ListN.{length, take, drop}
 use lib.Seq.{sets}

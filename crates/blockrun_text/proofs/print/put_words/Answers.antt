@@ -1,12 +1,10 @@
-use lib.ListN.{drop_of_length-le}
 use Rattle.blockrun_text.proofs.Putting.{put_on, sets_cap, words_cons}
 use Rattle.blockrun_text.specs.Printing.{words_of}
-use Prim.Native.Nat.{min}
 use borrow.Author.Rules.{rules}
 use native.Mathlib.Omega.{arith}
-use mathlib.Core.Path.{◌≡◌, sym, ap, ◌∙◌}
+use mathlib.Core.Path.{sym, ap, ◌∙◌}
 use mathlib.Core.List.{List, [], ◌∷◌}
-use Prim.Native.Nat.{ℕ, ◌+◌, ◌-◌, ◌*◌, ◌≤◌}
+use Prim.Native.Nat.{ℕ, ◌+◌}
 use lib.ListN.{length, drop, get_or}
 use lib.Seq.{sets, length-sets}
 use Rattle.blockrun_text.proofs.print.put_words.Goals as goal
@@ -25,10 +23,3 @@ loop-i-preserved c =
     let e = put_on c.loop-i.out _ (words_of (get_or s i 0 ∷ [])) (words_of (drop (i + 1) s)) c.loop-i.place _ c.put_field-place.ensures.1 c.put_field-place.ensures.0 in
     let l = ap length c.put_field-place.ensures.1 ∙ length-sets c.loop-i.out c.loop-i.place (words_of (get_or s i 0 ∷ [])) in
     (search rules, omega (arith, l), omega (arith, c.put_field-place.ensures.0), e ∙ ap (λ (x : List ℕ). sets c.loop-i.out c.loop-i.place x) (sym (words_cons s i (omega arith))) ∙ c.loop-i.invariant.3)
-
-pub returns : goal.returns
-unfolding words_of
-returns c =
-    let a = c.args in
-    let z = drop_of_length-le a.words.now {i = c.loop-i.i} (omega arith) in
-    (omega arith, rw z at c.loop-i.invariant.3)

@@ -1,14 +1,9 @@
-use lib.ListN.{drop_of_length-le}
-use Rattle.blockrun_text.proofs.Putting.{put_on, sets_cap, words_cons}
 use Rattle.blockrun_text.specs.Printing.{words_of}
 use Prim.Native.Nat.{min}
-use borrow.Author.Rules.{rules}
-use native.Mathlib.Omega.{arith}
-use mathlib.Core.Path.{◌≡◌, sym, ap, ◌∙◌}
-use mathlib.Core.List.{List, [], ◌∷◌}
-use Prim.Native.Nat.{ℕ, ◌+◌, ◌-◌, ◌*◌, ◌≤◌}
-use lib.ListN.{length, drop, get_or}
-use lib.Seq.{sets, length-sets}
+use mathlib.Core.Path.{◌≡◌}
+use Prim.Native.Nat.{◌+◌, ◌-◌, ◌*◌, ◌≤◌}
+use lib.ListN.{length, drop}
+use lib.Seq.{sets}
 use Rattle.blockrun_text.proofs.print.put_words.Given as goal
 
 abbrev pub invariant-loop-i : goal.invariant-loop-i

@@ -1,8 +1,6 @@
-use Rattle.blockrun_text.proofs.Reading.{newline, no_newline, no_line}
 use Rattle.blockrun_text.specs.Splitting.{end_of, first_newline}
 use Prim.Native.Nat.{min}
-use borrow.Author.Rules.{rules}
-use mathlib.Core.Path.{◌≡◌, refl}
+use mathlib.Core.Path.{◌≡◌}
 use Prim.Native.Nat.{◌+◌, ◌-◌}
 use lib.ListN.{length, drop}
 use Rattle.blockrun_text.proofs.split.line_end.Given as goal

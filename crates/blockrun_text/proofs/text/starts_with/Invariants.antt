@@ -1,6 +1,4 @@
-use Rattle.blockrun_text.proofs.Reading.{too_short, differs, agrees, starts}
 use Rattle.blockrun_text.specs.Forms.{starts_with}
-use borrow.Author.Rules.{rules}
 use mathlib.Core.Path.{◌≡◌}
 use Prim.Native.Nat.{◌-◌, ◌≤◌}
 use lib.ListN.{length, drop}
