@@ -1,6 +1,8 @@
 // Runs the vectors of `words`; `stdout` has what they must give, written by tests/vectors.py.
 #![tactic(auto)]
 
-fn main() {
-    vectors_lib::run();
+use std::io;
+
+fn main(rt: HostRuntime) -> io::Result<()> {
+    vectors_lib::run(&mut rt.stdout())
 }

@@ -1,5 +1,7 @@
 // Configurations: each number at its range's ends and just outside, in both modes, and past the width that a link keeps.
 use crate::print;
+use std::io;
+use std::io::Write;
 use words::link;
 use words::link::{Configuring, Link};
 
@@ -14,168 +16,180 @@ struct Five {
 }
 
 // What a configured link keeps, and the storage it asks for.
-fn kept(l: Link) {
-    print::field(b"ok");
-    print::number(l.address as u64);
-    print::number(l.mode as u64);
-    print::number(l.subaddress as u64);
-    print::number(l.largest as u64);
-    print::number(l.window as u64);
-    print::number(link::message_store(l) as u64);
-    print::number(link::block_store(l) as u64);
+fn kept(out: &mut impl Write, l: Link) -> io::Result<()> {
+    print::field(out, b"ok")?;
+    print::number(out, l.address as u64)?;
+    print::number(out, l.mode as u64)?;
+    print::number(out, l.subaddress as u64)?;
+    print::number(out, l.largest as u64)?;
+    print::number(out, l.window as u64)?;
+    print::number(out, link::message_store(l) as u64)?;
+    print::number(out, link::block_store(l) as u64)
 }
 
-fn finding(made: Configuring) {
+fn finding(out: &mut impl Write, made: Configuring) -> io::Result<()> {
     match made {
-        Configuring::Configured(l) => kept(l),
-        Configuring::Refused(n) => print::refused(n),
+        Configuring::Configured(l) => kept(out, l)?,
+        Configuring::Refused(n) => print::refused(out, n)?,
     }
-    print::end();
+    print::end(out)
 }
 
-fn line(f: Five) {
-    print::text(b"link");
-    print::number(f.address as u64);
-    print::number(f.mode as u64);
-    print::number(f.subaddress as u64);
-    print::number(f.largest as u64);
-    print::number(f.window as u64);
-    finding(link::configure(f.address, f.mode, f.subaddress, f.largest, f.window));
+fn line(out: &mut impl Write, f: Five) -> io::Result<()> {
+    print::text(out, b"link")?;
+    print::number(out, f.address as u64)?;
+    print::number(out, f.mode as u64)?;
+    print::number(out, f.subaddress as u64)?;
+    print::number(out, f.largest as u64)?;
+    print::number(out, f.window as u64)?;
+    finding(
+        out,
+        link::configure(f.address, f.mode, f.subaddress, f.largest, f.window),
+    )
 }
 
-fn address(base: Five, n: u32) {
+fn address(out: &mut impl Write, base: Five, n: u32) -> io::Result<()> {
     let mut f = base;
     f.address = n;
-    line(f);
+    line(out, f)
 }
 
-fn mode(base: Five, n: u32) {
+fn mode(out: &mut impl Write, base: Five, n: u32) -> io::Result<()> {
     let mut f = base;
     f.mode = n;
-    line(f);
+    line(out, f)
 }
 
-fn subaddress(base: Five, n: u32) {
+fn subaddress(out: &mut impl Write, base: Five, n: u32) -> io::Result<()> {
     let mut f = base;
     f.subaddress = n;
-    line(f);
+    line(out, f)
 }
 
-fn largest(base: Five, n: u32) {
+fn largest(out: &mut impl Write, base: Five, n: u32) -> io::Result<()> {
     let mut f = base;
     f.largest = n;
-    line(f);
+    line(out, f)
 }
 
-fn window(base: Five, n: u32) {
+fn window(out: &mut impl Write, base: Five, n: u32) -> io::Result<()> {
     let mut f = base;
     f.window = n;
-    line(f);
+    line(out, f)
 }
 
-fn addresses_and_modes(base: Five) {
-    address(base, 0);
-    address(base, 30);
-    address(base, 31);
-    address(base, 256);
-    mode(base, 0);
-    mode(base, 1);
-    mode(base, 2);
-    mode(base, 256);
-    mode(base, 257);
+fn addresses_and_modes(out: &mut impl Write, base: Five) -> io::Result<()> {
+    address(out, base, 0)?;
+    address(out, base, 30)?;
+    address(out, base, 31)?;
+    address(out, base, 256)?;
+    mode(out, base, 0)?;
+    mode(out, base, 1)?;
+    mode(out, base, 2)?;
+    mode(out, base, 256)?;
+    mode(out, base, 257)
 }
 
-fn subaddresses(base: Five) {
-    subaddress(base, 0);
-    subaddress(base, 10);
-    subaddress(base, 11);
-    subaddress(base, 12);
-    subaddress(base, 26);
-    subaddress(base, 27);
-    subaddress(base, 267);
+fn subaddresses(out: &mut impl Write, base: Five) -> io::Result<()> {
+    subaddress(out, base, 0)?;
+    subaddress(out, base, 10)?;
+    subaddress(out, base, 11)?;
+    subaddress(out, base, 12)?;
+    subaddress(out, base, 26)?;
+    subaddress(out, base, 27)?;
+    subaddress(out, base, 267)
 }
 
-fn largests(base: Five) {
-    largest(base, 0);
-    largest(base, 1023);
-    largest(base, 1024);
-    largest(base, 1025);
-    largest(base, 4095);
-    largest(base, 4096);
-    largest(base, 4097);
-    largest(base, 66560);
-    largest(base, 69632);
+fn largests(out: &mut impl Write, base: Five) -> io::Result<()> {
+    largest(out, base, 0)?;
+    largest(out, base, 1023)?;
+    largest(out, base, 1024)?;
+    largest(out, base, 1025)?;
+    largest(out, base, 4095)?;
+    largest(out, base, 4096)?;
+    largest(out, base, 4097)?;
+    largest(out, base, 66560)?;
+    largest(out, base, 69632)
 }
 
-fn windows(base: Five) {
-    window(base, 1);
-    window(base, 2);
-    window(base, 16);
-    window(base, 17);
-    window(base, 258);
-    window(base, 4294967295);
+fn windows(out: &mut impl Write, base: Five) -> io::Result<()> {
+    window(out, base, 1)?;
+    window(out, base, 2)?;
+    window(out, base, 16)?;
+    window(out, base, 17)?;
+    window(out, base, 258)?;
+    window(out, base, 4294967295)
 }
 
-fn around(base: Five) {
-    addresses_and_modes(base);
-    subaddresses(base);
-    largests(base);
-    windows(base);
+fn around(out: &mut impl Write, base: Five) -> io::Result<()> {
+    addresses_and_modes(out, base)?;
+    subaddresses(out, base)?;
+    largests(out, base)?;
+    windows(out, base)
 }
 
-fn verdict(configured: bool) {
+fn verdict(out: &mut impl Write, configured: bool) -> io::Result<()> {
     if configured {
-        print::field(b"link");
+        print::field(out, b"link")?;
     } else {
-        print::field(b"none");
+        print::field(out, b"none")?;
     }
-    print::end();
+    print::end(out)
 }
 
 // The same test over what a link holds.
-fn held_line(l: Link) {
-    print::text(b"held");
-    print::number(l.address as u64);
-    print::number(l.mode as u64);
-    print::number(l.subaddress as u64);
-    print::number(l.largest as u64);
-    print::number(l.window as u64);
-    verdict(link::is_configured(l));
+fn held_line(out: &mut impl Write, l: Link) -> io::Result<()> {
+    print::text(out, b"held")?;
+    print::number(out, l.address as u64)?;
+    print::number(out, l.mode as u64)?;
+    print::number(out, l.subaddress as u64)?;
+    print::number(out, l.largest as u64)?;
+    print::number(out, l.window as u64)?;
+    verdict(out, link::is_configured(l))
 }
 
 // A record of zeros, as storage is before configuring, is no link.
-fn held() {
-    held_line(print::link_zero());
-    held_line(print::link_one());
-    held_line(Link {
-        address: 0,
-        mode: 0,
-        subaddress: 0,
-        largest: 0,
-        window: 0,
-    });
+fn held(out: &mut impl Write) -> io::Result<()> {
+    held_line(out, print::link_zero())?;
+    held_line(out, print::link_one())?;
+    held_line(
+        out,
+        Link {
+            address: 0,
+            mode: 0,
+            subaddress: 0,
+            largest: 0,
+            window: 0,
+        },
+    )?;
     let mut wide = print::link_zero();
     wide.largest = 4096;
-    held_line(wide);
+    held_line(out, wide)?;
     let mut far = print::link_one();
     far.address = 31;
-    held_line(far);
+    held_line(out, far)
 }
 
-pub fn all() {
-    around(Five {
-        address: 5,
-        mode: 0,
-        subaddress: 11,
-        largest: 1024,
-        window: 2,
-    });
-    around(Five {
-        address: 5,
-        mode: 1,
-        subaddress: 20,
-        largest: 4096,
-        window: 2,
-    });
-    held();
+pub fn all(out: &mut impl Write) -> io::Result<()> {
+    around(
+        out,
+        Five {
+            address: 5,
+            mode: 0,
+            subaddress: 11,
+            largest: 1024,
+            window: 2,
+        },
+    )?;
+    around(
+        out,
+        Five {
+            address: 5,
+            mode: 1,
+            subaddress: 20,
+            largest: 4096,
+            window: 2,
+        },
+    )?;
+    held(out)
 }

@@ -1,6 +1,6 @@
 // Vectors for the crate `words`: each public function there is run on inputs at its edges, and what it answers is written,
 // a line to a vector, tab-parted. What each line must be is worked out apart from this code, by tests/vectors.py.
-// No contract can say what is written, so the functions here are proved safe and ending, and the lines are compared.
+// No contract says what is written: the functions here are proved safe and ending, and the lines are compared.
 #![tactic(auto)]
 
 mod blocks;
@@ -9,10 +9,13 @@ mod print;
 mod tables;
 mod wire;
 
+use std::io;
+use std::io::Write;
+
 // Every vector, in the order of the files.
-pub fn run() {
-    tables::all();
-    blocks::all();
-    wire::all();
-    configuring::all();
+pub fn run(out: &mut impl Write) -> io::Result<()> {
+    tables::all(out)?;
+    blocks::all(out)?;
+    wire::all(out)?;
+    configuring::all(out)
 }

@@ -3,7 +3,8 @@ ghost use Rattle.std.specs.Prelude.{◌≡◌};
 ghost use Rattle.vectors_lib.specs.Line.{digit_of, link_zero_of, link_one_of, words_of};
 ghost use Rattle.std.specs.Int.Bits.{bit_xor};
 
-use libc::STDOUT_FILENO;
+use std::io;
+use std::io::Write;
 use words::answer::Answer;
 use words::control::Words;
 use words::link::Link;
@@ -34,26 +35,25 @@ pub fn link_one() -> Link
     }
 }
 
-pub fn text(bytes: &[u8]) {
-    io::write_all(STDOUT_FILENO, bytes);
+pub fn text(out: &mut impl Write, bytes: &[u8]) -> io::Result<()> {
+    out.write_all(bytes)
 }
 
 // A tab, and what stands behind it.
-pub fn field(bytes: &[u8]) {
-    text(b"\t");
-    text(bytes);
+pub fn field(out: &mut impl Write, bytes: &[u8]) -> io::Result<()> {
+    text(out, b"\t")?;
+    text(out, bytes)
 }
 
-pub fn end() {
-    text(b"\n");
+pub fn end(out: &mut impl Write) -> io::Result<()> {
+    text(out, b"\n")
 }
 
-pub fn number(n: u64) {
-    text(b"\t");
-    io::print_decimal(STDOUT_FILENO, n);
+pub fn number(out: &mut impl Write, n: u64) -> io::Result<()> {
+    write!(out, "\t{n}")
 }
 
-// `io` has small letters only.
+// In capitals.
 #[tactic(auto, unfolding(crate::specs::Line::digit_of))]
 pub fn digit(n: u16) -> u8
     ensures { result ≡ digit_of n }
@@ -65,9 +65,9 @@ pub fn digit(n: u16) -> u8
     55 + low
 }
 
-pub fn word(n: u16) {
+pub fn word(out: &mut impl Write, n: u16) -> io::Result<()> {
     let digits = [digit(n / 4096), digit(n / 256), digit(n / 16), digit(n)];
-    field(&digits);
+    field(out, &digits)
 }
 
 pub fn words_of(first: u16, second: u16) -> Words
@@ -76,21 +76,21 @@ pub fn words_of(first: u16, second: u16) -> Words
     Words { first, second }
 }
 
-pub fn pair(words: Words) {
-    word(words.first);
-    word(words.second);
+pub fn pair(out: &mut impl Write, words: Words) -> io::Result<()> {
+    word(out, words.first)?;
+    word(out, words.second)
 }
 
-pub fn answer(a: Answer) {
+pub fn answer(out: &mut impl Write, a: Answer) -> io::Result<()> {
     match a {
-        Answer::Accepted => field(b"ok"),
-        Answer::Refused(n) => refused(n),
+        Answer::Accepted => field(out, b"ok"),
+        Answer::Refused(n) => refused(out, n),
     }
 }
 
-pub fn refused(n: u8) {
-    field(b"no");
-    number(n as u64);
+pub fn refused(out: &mut impl Write, n: u8) -> io::Result<()> {
+    field(out, b"no")?;
+    number(out, n as u64)
 }
 
 // A word with one bit changed: `bit` is a power of two.
