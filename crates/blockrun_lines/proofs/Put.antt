@@ -1,7 +1,7 @@
 -- Texts that follow on each other in a lent buffer.
 -- Assumes nothing.
 use Prim.Native.Nat.{ℕ, min, ◌+◌}
-use mathlib.Core.Path.{◌≡◌, ap, sym, ◌∙◌}
+use mathlib.Core.Path.{◌≡◌, ap, ◌∙◌}
 use mathlib.Core.List.{List, ◌++◌}
 use native.Mathlib.Omega.{arith}
 use lib.ListN.{length, length-append}

@@ -1,20 +1,16 @@
 -- A line is answered: the event that it names happens to the link, and its answer is written (document 01, "Pairs at the edges").
 -- Assumes nothing.
-use Rattle.std.specs.Prelude.{ℕ, min, List, [], length, take, replicate}
+use Rattle.std.specs.Prelude.{ℕ, min, List, length, take, replicate}
 use Rattle.std.proofs.lemmas.List.Edits.{sets}
 use Rattle.words.specs.declared.control.Quality.{Quality}
 use Rattle.blockrun_text.specs.Printing.{behind}
 use Rattle.blockrun_text.specs.Hex.{block_of, block_size_of}
 use Rattle.dist_controller.specs.Report.{report_of}
 use Rattle.dist_controller.specs.declared.state.Finding.{Finding}
-use Rattle.dist_controller.specs.declared.state.Finding.TheVariants as Finding
 use Rattle.dist_controller.specs.declared.report.Reported.{Reported}
-use Rattle.dist_controller.specs.declared.report.Reported.TheVariants as Reported
 use Rattle.dist_terminal.specs.declared.take.Take.{Take}
-use Rattle.dist_terminal.specs.declared.take.Take.TheVariants as Take
 use Rattle.dist_controller.specs.Message as Message
 use Rattle.dist_controller.specs.declared.message.Ask.{Ask}
-use Rattle.dist_controller.specs.declared.message.Ask.TheVariants as Ask
 use Rattle.dist_pair.specs.Events as Events
 use Rattle.dist_pair.specs.Bus as Bus
 use Rattle.dist_pair.specs.declared.state.Pair.{Pair}

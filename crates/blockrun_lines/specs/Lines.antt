@@ -3,9 +3,7 @@
 use Rattle.std.specs.Prelude.{ℕ, List, [], ◌∷◌, ◌++◌}
 use Rattle.blockrun_text.specs.Printing.{decimal_of, hex_of, words_of}
 use Rattle.words.specs.declared.answer.Answer.{Answer}
-use Rattle.words.specs.declared.answer.Answer.TheVariants as Answer
 use Rattle.dist_controller.specs.declared.state.Finding.{Finding}
-use Rattle.dist_controller.specs.declared.state.Finding.TheVariants as Finding
 
 -- a newline
 abbrev pub end : List ℕ

@@ -10,7 +10,7 @@ use borrow.Author.Tests.{ltb-true, ltb-false, ne_eqb, lt-ltb, le-ltb}
 use lib.Dec.{ltb}
 use lib.ListN.{length, get_or, length-append}
 use Rattle.blockrun_text.specs.Printing.{spelled_on, decimal_of, value_on, value_of}
-use Rattle.blockrun_text.specs.Numbers.{number, number_on}
+use Rattle.blockrun_text.specs.Numbers.{number_on}
 use Rattle.blockrun_text.proofs.Reading.{by}
 
 spelled_back : (k n : ℕ) (tail : List ℕ) → n < 10 ^ k → value_on 0 (spelled_on k n tail) ≡ value_on n tail

@@ -54,6 +54,7 @@ fn digit_value(byte: u8) -> u8
 }
 
 // The byte of two digits.
+#[tactic(auto, using(crate::proofs::Reading::digit_small))]
 pub fn byte_of(high: u8, low: u8) -> u8
     ensures { result ≡ digit_value_of high * 16 + digit_value_of low }
 {

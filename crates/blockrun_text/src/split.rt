@@ -6,7 +6,7 @@ ghost use Rattle.blockrun_text.specs.Forms.{starts_with, frame_line};
 use crate::text::starts_with;
 
 // The place of the first newline at or after `from`, the buffer's length where there is none.
-#[tactic(auto, unfolding(crate::specs::Splitting::end_of))]
+#[tactic(auto, unfolding(crate::specs::Splitting::end_of), using(crate::proofs::Reading::newline, crate::proofs::Reading::no_newline))]
 pub fn line_end(buffer: &[u8], from: usize) -> usize
     ensures { result ≡ end_of buffer.now from }
 {

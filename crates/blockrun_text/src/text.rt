@@ -2,6 +2,7 @@
 ghost use Rattle.std.specs.Prelude.{◌≡◌};
 ghost use Rattle.blockrun_text.specs.Forms.{starts_with, is_text};
 
+#[tactic(auto, using(crate::proofs::Reading::too_short, crate::proofs::Reading::differs, crate::proofs::Reading::agrees, crate::proofs::Reading::starts))]
 pub fn starts_with(text: &[u8], line: &[u8]) -> bool
     ensures { result ≡ starts_with text.now line.now }
 {

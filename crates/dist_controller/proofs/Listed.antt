@@ -3,12 +3,10 @@
 use Prim.Native.Nat.{ℕ, zero, suc, ◌+◌, ◌-◌, ◌<◌, ◌≤◌}
 use mathlib.Core.Path.{◌≡◌, refl, ap, ◌∙◌}
 use borrow.Author.Tests.{ne_eqb}
-use mathlib.Core.List.{List, [], ◌∷◌}
 use native.Mathlib.Omega.{arith}
 use lib.ListN.{length, get_or}
 use Rattle.words.specs.declared.link.Link.{Link}
 use Rattle.dist_controller.specs.Asked.{transfer_message, messages_asked, message_list, last_of, asked_of}
-use Rattle.dist_controller.specs.declared.asked.Asked.{Asked}
 use Rattle.dist_controller.specs.declared.asked.Asked.TheVariants.{Nothing}
 use Rattle.dist_controller.specs.declared.state.Phase.TheVariants.{Sending}
 use Rattle.dist_controller.specs.declared.state.Controller.{Controller}

@@ -1,6 +1,6 @@
 -- The message that the controller asks for (document 01, "The two machines", "Distribution").
 -- Assumes nothing.
-use Rattle.std.specs.Prelude.{ℕ, zero, suc, ◌-◌, Bool, cond, List, [], ◌∷◌, eqb, ltb}
+use Rattle.std.specs.Prelude.{ℕ, zero, suc, ◌-◌, cond, List, [], ◌∷◌, eqb, ltb}
 use Rattle.words.specs.Cutting.{messages_of, message_words_of, message_subaddress_of}
 use Rattle.words.specs.declared.link.Link.{Link}
 use Rattle.dist_controller.specs.declared.state.Phase.{Phase}

@@ -1,6 +1,6 @@
 -- A frame begins, a Reset is asked for, the controller restarts (document 01, "Distribution").
 -- Assumes nothing.
-use Rattle.std.specs.Prelude.{ℕ, Bool, true, false, cond, not, leb}
+use Rattle.std.specs.Prelude.{Bool, false, cond, not, leb}
 use Rattle.words.specs.Tick.{next_tick}
 use Rattle.words.specs.Link.{configured_of}
 use Rattle.dist_controller.specs.State.{is_open, fresh_of, in_phase, with_clock, with_standing, one_more, ended_of}

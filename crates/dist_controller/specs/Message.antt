@@ -11,7 +11,6 @@ use Rattle.dist_controller.specs.declared.state.Phase.{Phase}
 use Rattle.dist_controller.specs.declared.state.Phase.TheVariants.{Idle, Sending, Waiting, Reading, Resetting, ResetWaiting, ResetReading, CutSending, CutReading, CutResetting}
 use Rattle.dist_controller.specs.declared.state.Controller.{Controller}
 use Rattle.dist_controller.specs.declared.asked.Asked.{Asked}
-use Rattle.dist_controller.specs.declared.asked.Asked.TheVariants as Asked
 use Rattle.dist_controller.specs.declared.message.Ask.{Ask}
 use Rattle.dist_controller.specs.declared.message.Ask.TheVariants.{Message, Refused}
 

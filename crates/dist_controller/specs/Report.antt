@@ -9,16 +9,12 @@ use Rattle.dist_controller.specs.Asked.{message_list}
 use Rattle.dist_controller.specs.declared.state.Phase.{Phase}
 use Rattle.dist_controller.specs.declared.state.Phase.TheVariants.{Idle, Sending, Waiting, Reading, Resetting, ResetWaiting, ResetReading, CutSending, CutReading, CutResetting}
 use Rattle.dist_controller.specs.declared.state.Fate.{Fate}
-use Rattle.dist_controller.specs.declared.state.Fate.TheVariants as Fate
 use Rattle.dist_controller.specs.declared.state.Finding.{Finding}
-use Rattle.dist_controller.specs.declared.state.Finding.TheVariants as Finding
 use Rattle.dist_controller.specs.declared.state.Controller.{Controller}
 use Rattle.dist_controller.specs.Told.{accept, refuse}
 use Rattle.dist_controller.specs.declared.told.Stepped.{Stepped}
 use Rattle.dist_controller.specs.declared.report.Acceptance.{Acceptance}
-use Rattle.dist_controller.specs.declared.report.Acceptance.TheVariants as Acceptance
 use Rattle.dist_controller.specs.declared.report.Reported.{Reported}
-use Rattle.dist_controller.specs.declared.report.Reported.TheVariants as Reported
 
 -- 20: a configuration outside the ranges, or a store too short. Configuring starts a new run; refused, it leaves an earlier one as it was
 abbrev pub configuring_in : Configuring → Controller → ℕ → Stepped

@@ -7,9 +7,7 @@ use Rattle.words.specs.declared.control.Quality.TheVariants.{BestEffort}
 use Rattle.dist_controller.specs.declared.state.Phase.{Phase}
 use Rattle.dist_controller.specs.declared.state.Phase.TheVariants.{Idle, Sending, Waiting, Reading, Resetting, ResetWaiting, ResetReading, CutSending, CutReading, CutResetting}
 use Rattle.dist_controller.specs.declared.state.Fate.{Fate}
-use Rattle.dist_controller.specs.declared.state.Fate.TheVariants as Fate
 use Rattle.dist_controller.specs.declared.state.Finding.{Finding}
-use Rattle.dist_controller.specs.declared.state.Finding.TheVariants as Finding
 use Rattle.dist_controller.specs.declared.state.Transfer.{Transfer}
 use Rattle.dist_controller.specs.declared.state.Clock.{Clock}
 use Rattle.dist_controller.specs.declared.state.Standing.{Standing}

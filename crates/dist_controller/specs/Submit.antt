@@ -1,6 +1,6 @@
 -- A block is submitted (document 01, "Distribution", "Numbers a caller may get back").
 -- Assumes nothing.
-use Rattle.std.specs.Prelude.{ℕ, ◌+◌, Bool, true, false, cond, not, ◌||◌, List, leb, ltb, length}
+use Rattle.std.specs.Prelude.{ℕ, ◌+◌, Bool, cond, not, ◌||◌, List, leb, ltb, length}
 use Rattle.words.specs.Count.{next_distribution}
 use Rattle.words.specs.Link.{configured_of, block_store_of}
 use Rattle.words.specs.Cutting.{size_answer_of}

@@ -7,7 +7,6 @@ use Rattle.words.specs.Link.{configured_of}
 use Rattle.words.specs.Cutting.{messages_of}
 use Rattle.words.specs.Reading.{read_distribution_confirmation_of}
 use Rattle.words.specs.declared.answer.Answer.{Answer}
-use Rattle.words.specs.declared.answer.Answer.TheVariants as Answer
 use Rattle.words.specs.declared.count.DistributionCount.{DistributionCount}
 use Rattle.words.specs.declared.control.Quality.{Quality}
 use Rattle.words.specs.declared.control.Quality.TheVariants.{BestEffort, Verified}
@@ -20,7 +19,6 @@ use Rattle.dist_controller.specs.declared.state.Phase.{Phase}
 use Rattle.dist_controller.specs.declared.state.Phase.TheVariants.{Idle, Sending, Waiting, Reading, Resetting, ResetWaiting, ResetReading, CutSending, CutReading, CutResetting}
 use Rattle.dist_controller.specs.declared.state.Fate.TheVariants as Fate
 use Rattle.dist_controller.specs.declared.state.Finding.{Finding}
-use Rattle.dist_controller.specs.declared.state.Finding.TheVariants as Finding
 use Rattle.dist_controller.specs.declared.state.Controller.{Controller}
 use Rattle.dist_controller.specs.declared.told.Stepped.{Stepped}
 

@@ -1,6 +1,6 @@
 -- The bus: the message asked for arrives, at most once, and its outcome is told (document 01, "The two machines").
 -- Assumes nothing.
-use Rattle.std.specs.Prelude.{ℕ, Bool, true, false, cond, not, ◌||◌, List, [], ◌∷◌, length}
+use Rattle.std.specs.Prelude.{ℕ, Bool, true, false, cond, not, ◌||◌, List, [], length}
 use Rattle.words.specs.Link.{configured_of}
 use Rattle.words.specs.Control.{list_of}
 use Rattle.words.specs.declared.answer.Answer.{Answer}
@@ -16,7 +16,7 @@ use Rattle.dist_controller.specs.declared.asked.Asked.TheVariants.{Nothing, Rece
 use Rattle.dist_controller.specs.declared.told.Stepped as ControllerStepped
 use Rattle.dist_terminal.specs.Descriptor.{short}
 use Rattle.dist_terminal.specs.Calls as Terminal
-use Rattle.dist_pair.specs.State.{answered, accept, refuse, with_controller, with_terminal}
+use Rattle.dist_pair.specs.State.{accept, refuse, with_controller, with_terminal}
 use Rattle.dist_pair.specs.Events.{terminal_stepped}
 use Rattle.dist_pair.specs.declared.state.Flight.{Flight}
 use Rattle.dist_pair.specs.declared.state.Flight.TheVariants.{NotArrived, Arrived, Caught}

@@ -1,6 +1,6 @@
 -- What either end's host does: configuring, submission, Reset, frame, take, restart of either end (document 01, "Distribution").
 -- Assumes nothing.
-use Rattle.std.specs.Prelude.{ℕ, List, length}
+use Rattle.std.specs.Prelude.{ℕ, List}
 use Rattle.words.specs.declared.answer.Answer.{Answer}
 use Rattle.words.specs.declared.answer.Answer.TheVariants.{Accepted, Refused}
 use Rattle.words.specs.declared.control.Quality.{Quality}

@@ -3,13 +3,12 @@
 use Rattle.std.specs.Prelude.{ℕ}
 use Rattle.words.specs.Link.{no_link}
 use Rattle.words.specs.declared.answer.Answer.{Answer}
-use Rattle.words.specs.declared.answer.Answer.TheVariants as Answer
 use Rattle.dist_controller.specs.State as Controller
 use Rattle.dist_controller.specs.declared.state.Controller.{Controller}
 use Rattle.dist_terminal.specs.State as Terminal
 use Rattle.dist_terminal.specs.declared.state.Terminal.{Terminal}
 use Rattle.dist_pair.specs.declared.state.Flight.{Flight}
-use Rattle.dist_pair.specs.declared.state.Flight.TheVariants.{NotArrived, Arrived, Caught}
+use Rattle.dist_pair.specs.declared.state.Flight.TheVariants.{NotArrived}
 use Rattle.dist_pair.specs.declared.state.Pair.{Pair}
 use Rattle.dist_pair.specs.declared.state.Stepped.{Stepped}
 

@@ -21,7 +21,6 @@ use Rattle.words.proofs.Ranges.{by, link_ranges}
 use Rattle.words.proofs.Round.{distribution_confirmation_back, reset_distribution_back}
 use Rattle.dist_controller.specs.Told.{lost_of, confirmation_found, finding_of}
 use Rattle.dist_controller.specs.declared.state.Finding.{Finding}
-use Rattle.dist_controller.specs.declared.state.Finding.TheVariants as Finding
 use Rattle.dist_controller.specs.declared.state.Controller.{Controller}
 use Rattle.dist_terminal.specs.State.{nothing_yet}
 use Rattle.dist_promises.proofs.Model.{Word, w_none, w_reset, w_count, w_error, Told, reply, no_reply}

@@ -11,7 +11,7 @@ use Rattle.dist_promises.proofs.Parts.{Parts, Lawful, chunk}
 use Rattle.dist_promises.proofs.Model.{Msg, m_data, m_desc, m_reset, m_read, Word, w_none, w_reset, w_count, w_error, Hand, empty, held, Flight, away, came, caught}
 use Rattle.dist_promises.proofs.Model.{Phase, idle, send_data, send_desc, await, reading, reset_first, send_reset, await_reset, reading_reset}
 use Rattle.dist_promises.proofs.Model.{Rx, enough}
-use Rattle.dist_promises.proofs.Ghost.{Book, System, newest}
+use Rattle.dist_promises.proofs.Ghost.{Book, System}
 use Rattle.dist_promises.proofs.Circle.{Near}
 
 -- the deliveries, with the one that the hand still owes

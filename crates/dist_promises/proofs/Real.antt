@@ -14,7 +14,6 @@ use Rattle.words.specs.declared.control.Words.{Words}
 use Rattle.dist_controller.specs.declared.state.Phase as Real
 use Rattle.dist_controller.specs.declared.state.Phase.TheVariants.{Idle, Sending, Waiting, Reading, Resetting, ResetWaiting, ResetReading, CutSending, CutReading, CutResetting}
 use Rattle.dist_controller.specs.declared.state.Fate.{Fate}
-use Rattle.dist_controller.specs.declared.state.Fate.TheVariants as Fate
 use Rattle.dist_controller.specs.declared.state.Finding.{Finding}
 use Rattle.dist_controller.specs.declared.state.Controller.{Controller}
 use Rattle.dist_terminal.specs.State.{nothing_yet}

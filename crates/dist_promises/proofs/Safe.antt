@@ -20,7 +20,7 @@ use Rattle.dist_promises.proofs.SafeTold.{done_ok, no_reply_ok}
 
 pub fresh_ok : (largest : ℕ) (P : Parts) (L : Lawful largest P) (t : Item)
     → Invariant largest P L (sys fresh_tx (fresh_rx P) away (record { subs = []; dels = []; confs = []; tag = t }))
-fresh_ok m P L t = record { chain = none; kept = none; whole = L.Whole-fresh; fits = tt; close = tt; phase = tt }
+fresh_ok m P L t = record { chain = none; kept = none; whole = L.whole_fresh; fits = tt; close = tt; phase = tt }
 
 pub steps_ok : (largest : ℕ) (P : Parts) (L : Lawful largest P) (x : Bool) (e : Event) (s : System P.Store) → Invariant largest P L s
     → Invariant largest P L (steps P largest x e s)

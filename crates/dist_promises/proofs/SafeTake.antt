@@ -181,7 +181,7 @@ module _ (largest : ℕ) (P : Parts) (L : Lawful largest P) where
       record {
         chain = unowed l.tag r.hand l.dels l.subs i.chain;
         kept = i.kept;
-        whole = L.Whole-fresh;
+        whole = L.whole_fresh;
         fits = tt;
         close = close_fresh t.accepted t.spent t.count;
         phase = phase_fresh t.phase f t.accepted t.count r l i.phase;

@@ -7,7 +7,6 @@ use Rattle.dist_controller.specs.Report.{report_of, acceptance_of, pending_of}
 use Rattle.dist_controller.specs.declared.state.Phase.{Phase}
 use Rattle.dist_controller.specs.declared.state.Phase.TheVariants.{Idle, Sending, Waiting, Reading, Resetting, ResetWaiting, ResetReading, CutSending, CutReading, CutResetting}
 use Rattle.dist_controller.specs.declared.state.Fate.{Fate}
-use Rattle.dist_controller.specs.declared.state.Fate.TheVariants as Fate
 use Rattle.dist_controller.specs.declared.state.Controller.{Controller}
 use Rattle.dist_controller.proofs.Listed.{length_list}
 use Rattle.promises.specs.Run.{Answer, ok, accepted}

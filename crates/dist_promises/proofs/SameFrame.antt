@@ -18,14 +18,13 @@ use Rattle.dist_controller.specs.Events.{due_of, ask_again, ask_in, cut_transfer
 use Rattle.dist_terminal.specs.Data.{store_short}
 use Rattle.dist_terminal.specs.Calls as Terminal
 use Rattle.dist_controller.specs.declared.state.Fate.{Fate}
-use Rattle.dist_controller.specs.declared.state.Fate.TheVariants as Fate
 use Rattle.dist_controller.specs.declared.state.Finding.TheVariants as Finding
 use Rattle.dist_controller.specs.declared.state.Controller.{Controller}
 use Rattle.dist_pair.specs.Events as Events
 use Rattle.promises.specs.Run.{Block, frame, reset, restart_sender, restart_receiver}
 use Rattle.dist_promises.specs.Distribution.{Ends, step_of}
 use Rattle.dist_promises.proofs.Parts.{chunk}
-use Rattle.dist_promises.proofs.Modes.{Received, parts}
+use Rattle.dist_promises.proofs.Modes.{Received}
 use Rattle.dist_promises.proofs.Model.{Phase, idle, send_data, send_desc, await, reading, reset_first, send_reset, await_reset, reading_reset}
 use Rattle.dist_promises.proofs.Model.{m_data, m_desc, m_reset, m_read, Tx, Meter, State, framed, asks_read, first_age, age, ticked, is_open, cut, asked_by}
 use Rattle.dist_promises.proofs.Real.{Hidden, phase_of, size_in, quality_in, flight_of, terminal_of, controller_of, real, PhaseIs, Ground, Stands, moves}

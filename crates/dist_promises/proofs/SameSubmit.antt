@@ -27,9 +27,8 @@ use Rattle.stores.proofs.Bytes.{bytes_back}
 use Rattle.dist_controller.specs.Submit as Submit
 use Rattle.dist_controller.specs.Submit.{short_of, limit, room_answer_of, then_answer, submit_answer_of, started_of, one_more_spent}
 use Rattle.dist_controller.specs.declared.state.Fate.{Fate}
-use Rattle.dist_controller.specs.declared.state.Fate.TheVariants as Fate
 use Rattle.dist_pair.specs.Events as Events
-use Rattle.promises.specs.Run.{Block, Load, submit, Answer, denied, ok}
+use Rattle.promises.specs.Run.{Block, Load, submit, denied, ok}
 use Rattle.promises.specs.Promise.{messages}
 use Rattle.dist_promises.specs.Distribution.{Ends, step_of, says_of}
 use Rattle.dist_promises.proofs.Modes.{Received}

@@ -15,7 +15,7 @@ use Rattle.promises.specs.Run.{told_done, told_no_reply, Answer, denied}
 use Rattle.dist_promises.specs.Distribution.{Ends, step_of, says_of, answer_of}
 use Rattle.dist_promises.proofs.Modes.{Received, parts}
 use Rattle.dist_promises.proofs.Model.{Phase, idle, send_data, send_desc, await, reading, reset_first, send_reset, await_reset, reading_reset}
-use Rattle.dist_promises.proofs.Model.{Tx, Rx, Meter, State, Flight, away, came, caught, told, stamped, costs, told_in, told_says, of_told, age, done_says}
+use Rattle.dist_promises.proofs.Model.{Tx, Rx, Meter, State, Flight, away, came, caught, stamped, costs, told_in, told_says, of_told, age, done_says}
 use Rattle.dist_promises.proofs.Real.{Hidden, controller_of, real, Ground, Facts, Stands, moves}
 use Rattle.dist_promises.proofs.Said.{news}
 use Rattle.dist_promises.proofs.SameFrame.{tx, meter}

@@ -10,7 +10,6 @@ use Rattle.dist_controller.specs.Report.{report_of}
 use Rattle.dist_controller.specs.State.{fresh_of}
 use Rattle.dist_controller.specs.Events as Controller
 use Rattle.dist_controller.specs.declared.state.Fate.{Fate}
-use Rattle.dist_controller.specs.declared.state.Fate.TheVariants as Fate
 use Rattle.dist_controller.specs.declared.state.Controller as RealState
 use Rattle.dist_terminal.specs.Calls as Terminal
 use Rattle.dist_pair.specs.Events as Events

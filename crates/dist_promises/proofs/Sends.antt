@@ -16,7 +16,7 @@ use Rattle.dist_controller.specs.Asked.{transfer_message, last_of, asked_of}
 use Rattle.dist_controller.specs.Message.{transfer_words_at, words_asked}
 use Rattle.dist_controller.specs.declared.asked.Asked.TheVariants.{Nothing, Receive, Transmit}
 use Rattle.dist_controller.specs.declared.state.Controller.{Controller}
-use Rattle.promises.specs.Run.{Block, nothing}
+use Rattle.promises.specs.Run.{Block}
 use Rattle.promises.specs.Promise.{messages}
 use Rattle.dist_promises.specs.Distribution.{asking_of}
 use Rattle.dist_promises.proofs.Parts.{chunk}

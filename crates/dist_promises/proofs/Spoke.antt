@@ -18,9 +18,7 @@ use Rattle.words.proofs.Ranges.{by, largest_cases}
 use Rattle.dist_controller.specs.State.{counted_of, with_finding}
 use Rattle.dist_controller.specs.Told.{accept, told_of, sent_of, stops_of, overdue_of, unanswered_of, read_of, told_reading}
 use Rattle.dist_controller.specs.declared.state.Fate.{Fate}
-use Rattle.dist_controller.specs.declared.state.Fate.TheVariants as Fate
 use Rattle.dist_controller.specs.declared.state.Finding.{Finding}
-use Rattle.dist_controller.specs.declared.state.Finding.TheVariants as Finding
 use Rattle.dist_controller.specs.declared.state.Controller.{Controller}
 use Rattle.promises.specs.Run.{Block, Load, are_bytes, ok, failed, unconfirmed}
 use Rattle.promises.specs.Promise.{messages}

@@ -13,11 +13,10 @@ use Rattle.words.proofs.Ranges.{by}
 use Rattle.dist_controller.specs.State.{with_finding}
 use Rattle.dist_controller.specs.Told.{refuse, told_of, overdue_of, reset_sent_of, not_shown, reset_read_of, told_reset_reading, told_cut_reading}
 use Rattle.dist_controller.specs.declared.state.Finding.{Finding}
-use Rattle.dist_controller.specs.declared.state.Finding.TheVariants as Finding
 use Rattle.dist_controller.specs.declared.state.Controller.{Controller}
 use Rattle.promises.specs.Run.{ok}
 use Rattle.dist_promises.proofs.Model.{Phase, idle, send_data, send_desc, await, reading, reset_first, send_reset, await_reset, reading_reset, Msg, m_data, m_desc, m_reset, m_read}
-use Rattle.dist_promises.proofs.Model.{w_none, w_reset, w_count, w_error, Tx, Asked, unasked, asked, asked_by, Shown, s_confirmed, s_refused, s_other, shows_at, later, on_read_reset, of_reset, at, told}
+use Rattle.dist_promises.proofs.Model.{w_none, w_reset, w_count, w_error, Tx, Asked, unasked, asked, asked_by, Shown, s_confirmed, s_refused, s_other, shows_at, later, on_read_reset, of_reset, at}
 use Rattle.dist_promises.proofs.Real.{Hidden, NotOpen, PhaseIs, CutIs}
 use Rattle.dist_promises.proofs.Said.{shut}
 use Rattle.dist_promises.proofs.SaysFrame.{quiet}

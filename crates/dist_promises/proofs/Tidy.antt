@@ -233,7 +233,7 @@ module _ (largest : ℕ) (P : Parts) (L : Lawful largest P) where
     tidy_step told_done s h = tidy_done s.flight s h
     tidy_step told_no_reply s h = tidy_told no_reply s h
     tidy_step restart_sender s h = record { tick = h.tick; rx = h.rx; phase = tt }
-    tidy_step restart_receiver s h = record { tick = h.tick; rx = record { whole = L.Whole-fresh; hand = tt }; phase = h.phase }
+    tidy_step restart_receiver s h = record { tick = h.tick; rx = record { whole = L.whole_fresh; hand = tt }; phase = h.phase }
     tidy_step (deliver buffer) s h = record { tick = h.tick; rx = neat_taken s.rx.hand (length buffer) s.rx h.rx; phase = h.phase }
 
     tidy_from : (es : List Event) (w : World (model P largest W)) → Tidy w.state → Tidy (run (model P largest W) es w).state
@@ -244,4 +244,4 @@ module _ (largest : ℕ) (P : Parts) (L : Lawful largest P) where
     pub tidy_run : (es : List Event) → Tidy (after (model P largest W) es).state
     tidy_run es =
         tidy_from es (after (model P largest W) [])
-        (record { tick = omega arith; rx = record { whole = L.Whole-fresh; hand = tt }; phase = tt })
+        (record { tick = omega arith; rx = record { whole = L.whole_fresh; hand = tt }; phase = tt })

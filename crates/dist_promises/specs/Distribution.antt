@@ -10,18 +10,13 @@ use Rattle.dist_controller.specs.Report.{report_of}
 use Rattle.dist_controller.specs.declared.asked.Asked as Controller
 use Rattle.dist_controller.specs.declared.asked.Asked.TheVariants.{Nothing, Receive, Transmit}
 use Rattle.dist_controller.specs.declared.state.Fate.{Fate}
-use Rattle.dist_controller.specs.declared.state.Fate.TheVariants as Fate
 use Rattle.dist_controller.specs.declared.report.Acceptance.{Acceptance}
-use Rattle.dist_controller.specs.declared.report.Acceptance.TheVariants as Acceptance
 use Rattle.dist_controller.specs.declared.report.Reported.{Reported}
-use Rattle.dist_controller.specs.declared.report.Reported.TheVariants as Reported
 use Rattle.dist_terminal.specs.declared.state.Terminal.{Terminal}
 use Rattle.dist_terminal.specs.declared.take.Take.{Take}
-use Rattle.dist_terminal.specs.declared.take.Take.TheVariants as Take
 use Rattle.dist_pair.specs.State.{unconfigured}
 use Rattle.dist_pair.specs.Events as Events
 use Rattle.dist_pair.specs.Bus as Bus
-use Rattle.dist_pair.specs.declared.state.Flight.{Flight}
 use Rattle.dist_pair.specs.declared.state.Pair.{Pair}
 use Rattle.dist_pair.specs.declared.state.Stepped.{Stepped}
 use Rattle.promises.specs.Run.{Event, submit, reset, frame, arrive, told_done, told_no_reply, restart_sender, restart_receiver, deliver}

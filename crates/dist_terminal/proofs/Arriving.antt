@@ -1,8 +1,8 @@
 -- What an accepted data message says of the link, the message and the store; and what its words leave in the store.
 -- Assumes nothing.
 use Prim.Native.Nat.{ℕ, min, ◌+◌, ◌-◌, ◌*◌, ◌/◌, ◌≤◌, ◌<◌}
-use mathlib.Core.Path.{◌≡◌, refl, ap, sym, ◌∙◌}
-use mathlib.Core.Bool.{Bool, true, false, cond, not, ◌&&◌, ◌||◌}
+use mathlib.Core.Path.{◌≡◌}
+use mathlib.Core.Bool.{true, false, not}
 use mathlib.Core.List.{List}
 use native.Mathlib.Omega.{arith}
 use lib.Dec.{eqb, ltb, leb}
@@ -12,13 +12,12 @@ use borrow.Author.Tests.{not-false, ltb-false, leb-true, eqb-true, eqb-false}
 use Rattle.words.specs.Bytes.{bytes_of}
 use Rattle.words.specs.Link.{configured_of, message_store_of}
 use Rattle.words.specs.Cutting.{data_answer_of, uses_of}
-use Rattle.words.specs.declared.answer.Answer.{Answer}
 use Rattle.words.specs.declared.answer.Answer.TheVariants.{Accepted, Refused}
 use Rattle.words.specs.declared.link.Link.{Link}
 use Rattle.words.proofs.Ranges.{by, both}
 use Rattle.stores.specs.Writing.{room_of, message_written_of}
 use Rattle.stores.proofs.Runs.{take_least}
-use Rattle.dist_terminal.specs.Data.{store_short, answer_of, most_words}
+use Rattle.dist_terminal.specs.Data.{store_short, answer_of}
 use Rattle.dist_terminal.specs.declared.state.Terminal.{Terminal}
 
 not_accepted : (n : ℕ) → Refused n ≡ Accepted → ⊥

@@ -4,7 +4,6 @@ use Rattle.std.specs.Prelude.{ℕ, zero, suc, ◌+◌, ◌/◌, Bool, true, cond
 use Rattle.words.specs.Link.{configured_of}
 use Rattle.words.specs.Cutting.{messages_of, message_words_of, size_answer_of}
 use Rattle.words.specs.declared.answer.Answer.{Answer}
-use Rattle.words.specs.declared.answer.Answer.TheVariants as Answer
 use Rattle.stores.specs.Marks.{is_marked_of, marked_of, lowest_missing_of}
 use Rattle.dist_terminal.specs.declared.state.Marks.{Marks}
 use Rattle.dist_terminal.specs.declared.state.Terminal.{Terminal}

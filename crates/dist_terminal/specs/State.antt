@@ -1,6 +1,6 @@
 -- What the terminal keeps of its link (document 01, "Distribution"), and the changes that its events are made of.
 -- Assumes nothing.
-use Rattle.std.specs.Prelude.{ℕ, Bool, true, false, List, replicate}
+use Rattle.std.specs.Prelude.{ℕ, true, false, replicate}
 use Rattle.words.specs.Count.{distribution_count}
 use Rattle.words.specs.Control.{reset_words}
 use Rattle.words.specs.declared.answer.Answer.TheVariants as Answer
@@ -8,7 +8,7 @@ use Rattle.words.specs.declared.control.Words.{Words}
 use Rattle.words.specs.declared.count.DistributionCount.{DistributionCount}
 use Rattle.words.specs.declared.link.Link.{Link}
 use Rattle.dist_terminal.specs.declared.state.Hand.{Hand}
-use Rattle.dist_terminal.specs.declared.state.Hand.TheVariants.{Empty, Holding}
+use Rattle.dist_terminal.specs.declared.state.Hand.TheVariants.{Empty}
 use Rattle.dist_terminal.specs.declared.state.Marks.{Marks}
 use Rattle.dist_terminal.specs.declared.state.Terminal.{Terminal}
 use Rattle.dist_terminal.specs.declared.state.Stepped.{Stepped}

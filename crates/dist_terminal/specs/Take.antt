@@ -1,11 +1,10 @@
 -- The application takes the block in hand, and 27T is transmitted (document 01, "Distribution").
 -- Assumes nothing.
-use Rattle.std.specs.Prelude.{ℕ, Bool, true, false, cond, not, ◌||◌, List, [], ◌∷◌, eqb, ltb, length}
+use Rattle.std.specs.Prelude.{ℕ, Bool, false, cond, not, ◌||◌, List, [], ◌∷◌, eqb, ltb, length}
 use Rattle.std.proofs.lemmas.List.Edits.{sets}
 use Rattle.words.specs.Link.{configured_of, block_store_of}
 use Rattle.words.specs.Control.{distribution_confirmation_words, list_of}
 use Rattle.words.specs.declared.answer.Answer.{Answer}
-use Rattle.words.specs.declared.answer.Answer.TheVariants as Answer
 use Rattle.words.specs.declared.count.DistributionCount.{DistributionCount}
 use Rattle.words.specs.declared.link.Link.{Link}
 use Rattle.stores.specs.Copying.{copied_of}

@@ -67,7 +67,7 @@ fn place(store: &mut [u8], subaddress: u8, words: &[u16])
 }
 
 // A message of mode 1 goes after what was received; words past the 2048th are not kept.
-#[tactic(auto, unfolding(words::specs::Bytes::bytes_of))]
+#[tactic(auto, using(crate::proofs::Arriving::kept), unfolding(words::specs::Bytes::bytes_of))]
 fn append(store: &mut [u8], received: u16, words: &[u16])
     requires { (4096 ≤ length store.old) × (length words.now ≤ 32) }
     ensures { store.new ≡ sets store.old (2 * received) (bytes_of (take (2048 - received) words.now)) }

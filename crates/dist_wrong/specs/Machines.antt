@@ -25,7 +25,6 @@ use Rattle.dist_controller.specs.declared.state.Phase.TheVariants.{Idle, Sending
 use Rattle.dist_controller.specs.declared.asked.Asked.{Asked}
 use Rattle.dist_controller.specs.declared.asked.Asked.TheVariants.{Nothing}
 use Rattle.dist_controller.specs.declared.report.Reported.{Reported}
-use Rattle.dist_controller.specs.declared.report.Reported.TheVariants as Reported
 use Rattle.dist_terminal.specs.State.{accept, refuse, cleared_of, with_hand}
 use Rattle.dist_terminal.specs.Descriptor.{short, judged_of, block_step, block_hand, descriptor_in, hand_in}
 use Rattle.dist_terminal.specs.Data.{data_of}

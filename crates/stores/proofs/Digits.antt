@@ -8,7 +8,6 @@ use Prim.Native.Nat.{ℕ, zero, suc, ◌+◌, ◌-◌, ◌*◌, ◌/◌, ◌%◌
 use native.Mathlib.Nat.{pow-suc}
 use native.Mathlib.Omega.{arith}
 use lib.ListN.{length, take, get_or, set}
-use Rattle.words.proofs.Ranges.{by}
 use lib.Dec.{eqb}
 use lib.Bits.{bit_and, bit_or, and_step, or_step, or_zero_r}
 use lib.Count.{ones, ones_step, count_trailing_zeros, trailing_of_zero, under}
