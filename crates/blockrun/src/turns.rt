@@ -168,6 +168,7 @@ fn stopped(run: Run, have: usize, long: bool, ended: bool) -> Held
 }
 
 // Each whole line of `lines` is answered; `have` is where the rest begins.
+#[tactic(auto, using(blockrun_text::proofs::Uses::frame_inside))]
 fn all_lines(
     h: Held,
     lines: &[u8],
