@@ -1,5 +1,6 @@
 // Input of any length through a buffer: what one read brought is answered by one write, so that a person sees each answer at once.
 // A line over 16384 bytes is of another form; it is passed over and loses nothing behind it.
+// A read or a write that fails ends the program with its error.
 ghost use Rattle.std.specs.Prelude.{◌≡◌, ◌+◌, ◌≤◌, length, IfOk};
 
 use blockrun_lines::answer::Answered;
