@@ -9,7 +9,7 @@
 set -e
 made=target/bench
 mkdir -p "$made"
-rt check blockrun > "$made/log" 2>&1
+(cd crates/blockrun && rt run < /dev/null) > "$made/log" 2>&1
 
 kit=$(dirname "$(readlink -f "$(command -v rt)")")/..
 tools=$kit/on/$(uname -m)/toolchain
@@ -64,6 +64,6 @@ one_line() {
     awk -v name="$name" -v n=$((many - few)) 'BEGIN { printf "%s: %d instructions for a frame line\n", name, n / 1000 }'
 }
 
-one_line blockrun target/bin/blockrun
+one_line blockrun crates/blockrun/out/blockrun
 one_line mawk "$mawk" '{print NR "\tok"}'
 one_line "Rust line loop" "$made/lines"

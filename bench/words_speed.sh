@@ -5,7 +5,7 @@
 set -e
 made=target/bench
 mkdir -p "$made"
-rt staticlib stores_calls > "$made/log" 2>&1
+(cd crates/stores_calls && rt lib) > "$made/log" 2>&1
 
 # natively: the function with all that it calls, over many calls
 by_callgrind() {
@@ -19,7 +19,7 @@ by_emulator() {
 }
 
 if [ "$(uname -m)" = x86_64 ]; then
-    rustc -O -L target/staticlib -o "$made/words_speed" bench/words_speed.rs
+    rustc -O -L crates/stores_calls/out -o "$made/words_speed" bench/words_speed.rs
     count=by_callgrind
 else
     tools=$(dirname "$(readlink -f "$(command -v rt)")")/../on/$(uname -m)/toolchain/bin
@@ -29,7 +29,7 @@ else
     sed -i -E '/^target /d; s/"(target-cpu|target-features|probe-stack)"="[^"]*"//g' "$made/plain.ll"
     "$tools/clang" $to -O3 -Wno-override-module -c -o "$made/plain.o" "$made/plain.ll"
     "$tools/clang" $to -O1 -ffreestanding -c -o "$made/main.o" bench/words_speed.c
-    "$tools/ld.lld" -static --unresolved-symbols=ignore-all -o "$made/words_speed" "$made/main.o" "$made/plain.o" target/staticlib/libstores_calls.a
+    "$tools/ld.lld" -static --unresolved-symbols=ignore-all -o "$made/words_speed" "$made/main.o" "$made/plain.o" crates/stores_calls/out/libstores_calls.a
     "$tools/qemu-x86_64" -one-insn-per-tb -d exec,nochain -D "$made/trace" "$made/words_speed"
     count=by_emulator
 fi

@@ -3,35 +3,20 @@
 # First the stored tests, tests/blockrun/NAME.in and .out, or with .gz behind (made by tests/blockrun_cases.py, and looked at for
 # being what it makes now; it also holds the reference to lines worked out by arithmetic). Then what is made anew each time: inputs
 # that end in odd ways, long scenarios, and two seeds of random lines.
-# BLOCKRUN is the command that runs the program, else target/bin/blockrun is run as ./run does, without building it.
+# BLOCKRUN is the command that runs the program; where it is not given, ./run's program is built and run.
 # SEEDS and RANDOM_LINES (how many) say which random lines are tried.
 # At a difference the first line that differs is shown; the exit status is 0 only if all agree.
 set -u
 cd "$(dirname "${BASH_SOURCE[0]}")/.." || exit 2
 export PYTHONDONTWRITEBYTECODE=1
 
-# Programs are for x86-64, and load the C library that the kit has; on another processor the kit has an emulator too.
-runner() {
-    local kit=${RATTLE_HOME:-} rt tools
-    if [ -z "$kit" ]; then
-        rt=$(readlink -f "$(command -v rt)") && kit=$(cd "$(dirname "$rt")/.." && pwd -P)
-    fi
-    tools=$kit/on/$(uname -m)/toolchain
-    if [ -x "$tools/bin/qemu-x86_64" ]; then
-        echo "$tools/bin/qemu-x86_64 $tools/lib/ld-linux-x86-64.so.2 --library-path $tools/lib target/bin/blockrun"
-    elif [ -x "$tools/lib/ld-linux-x86-64.so.2" ]; then
-        echo "$tools/lib/ld-linux-x86-64.so.2 --library-path $tools/lib target/bin/blockrun"
-    else
-        echo target/bin/blockrun
-    fi
-}
-
 if [ -z "${BLOCKRUN:-}" ]; then
-    if [ ! -f target/bin/blockrun ]; then
-        echo "blockrun.sh: there is no target/bin/blockrun; './run blockrun </dev/null' builds it" >&2
+    # proves and builds the program where it has changed, and leaves it in out/
+    if ! (cd crates/blockrun && rt run </dev/null >/dev/null 2>&1); then
+        echo "blockrun.sh: './run blockrun' fails" >&2
         exit 2
     fi
-    BLOCKRUN=$(runner)
+    BLOCKRUN=crates/blockrun/out/blockrun
 fi
 SEEDS=${SEEDS:-1 2}
 RANDOM_LINES=${RANDOM_LINES:-20000}
