@@ -146,14 +146,14 @@ module _ (link : Link) (lent : List ℕ) (G : Ground link lent) where
       read_back : read_descriptor_of words link ≡ D.Block z (quality_of v) (distribution_count k)
       read_back = descriptor_back link z (quality_of v) (distribution_count k) (allowed link z k G.configured i)
 
-      IsJudged : judged_of (terminal_of link h r) z (quality_of v) (distribution_count k) ≡ judged_in r.seen known r.hand suffices
-      IsJudged = judged_is r.seen known r.hand v h r.handled r.parts r.word k z refl
+      judged : judged_of (terminal_of link h r) z (quality_of v) (distribution_count k) ≡ judged_in r.seen known r.hand suffices
+      judged = judged_is r.seen known r.hand v h r.handled r.parts r.word k z refl
 
       pub desc_lands : (Terminal.receive_of (terminal_of link h r) 27 words (length r.parts.places) (length h.hand)).terminal
           ≡ terminal_of link desc_hidden (received (parts link lent) (m_desc v k z) r)
       unfolding Terminal.receive_of descriptor_of
       desc_lands =
-          rw (all_long link lent G h r whole room, read_back, IsJudged)
+          rw (all_long link lent G h r whole room, read_back, judged)
           (stepped_is r.seen known r.hand suffices h r.handled r.parts r.word k z block_long desc_hidden.hand h.caught)
 
       pub desc_placed : Terminal.store_received (terminal_of link h r) 27 words r.parts.places (length h.hand)
@@ -166,7 +166,7 @@ module _ (link : Link) (lent : List ℕ) (G : Ground link lent) where
       pub desc_hand_lem : Terminal.hand_received (terminal_of link h r) 27 words r.parts.places h.hand ≡ desc_hidden.hand
       unfolding Terminal.hand_received hand_after
       desc_hand_lem =
-          rw (all_long link lent G h r whole room, read_back, IsJudged)
+          rw (all_long link lent G h r whole room, read_back, judged)
           (hand_is r.seen known r.hand suffices h r.handled r.parts r.word z)
 
       pub record Landed : Type 0 where

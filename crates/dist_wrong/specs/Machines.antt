@@ -177,12 +177,12 @@ received step held =
       hands = hands_by held;
     }
 
--- the real ends, but for how a descriptor of a block is IsJudged
+-- the real ends, but for how a descriptor of a block is judged
 abbrev pub judging : (Terminal → ℕ → Quality → DistributionCount → Judged) → Ways
-judging IsJudged =
+judging judged =
     received
-    (λ t size quality count. block_step (IsJudged t size quality count) t size count)
-    (λ t size quality count store hand. block_hand (IsJudged t size quality count) t size store hand)
+    (λ t size quality count. block_step (judged t size quality count) t size count)
+    (λ t size quality count store hand. block_hand (judged t size quality count) t size store hand)
 
 -- takes every descriptor for a good one
 abbrev pub accepting : Ways

@@ -11,12 +11,12 @@ lost test outcome = cond test NoReply outcome
 -- a message is done when a status word came, with the right address (its top five bits), Message Error (0400) 0 and
 -- Busy (0008) 0, and a read brought the asked number of words
 unfoldable pub outcome_of : Bool → ℕ → ℕ → ℕ → ℕ → Outcome
-outcome_of came status address words_asked wordsCame =
+outcome_of came status address words_asked words_came =
     lost (not came)
     (lost (not (status / 2048 == address))
     (lost (status / 1024 % 2 == 1)
     (lost (status / 8 % 2 == 1)
-    (lost (not (wordsCame == words_asked))
+    (lost (not (words_came == words_asked))
     Done))))
 
 -- 0 where the message is done
