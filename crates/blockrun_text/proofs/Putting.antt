@@ -44,6 +44,17 @@ pub put_on : (l m u v : List ℕ) (a b : ℕ) → m ≡ sets l a u → b ≡ min
 put_on l m u v a b e f =
     rw e (sets_cap (sets l a u) v (a + length u) b (rw (length-sets l a u) f) ∙ sets_append u v l a)
 
+-- a loop that puts the text of one element after another, whatever the text
+pub put_next : (text : List ℕ → List ℕ) (l m s : List ℕ) (i a b : ℕ)
+    → text (drop i s) ≡ text (get_or s i 0 ∷ []) ++ text (drop (i + 1) s)
+    → m ≡ sets l a (text (get_or s i 0 ∷ [])) → b ≡ min (length l) (a + length (text (get_or s i 0 ∷ [])))
+    → sets m b (text (drop (i + 1) s)) ≡ sets l a (text (drop i s))
+put_next text l m s i a b c e f =
+    put_on l m (text (get_or s i 0 ∷ [])) (text (drop (i + 1) s)) a b e f ∙ ap (λ (x : List ℕ). sets l a x) (sym c)
+
+pub put_length : (l m u : List ℕ) (a : ℕ) → m ≡ sets l a u → length m ≡ length l
+put_length l m u a e = ap length e ∙ length-sets l a u
+
 pub hex_cons : (s : List ℕ) (i : ℕ) → i < length s → hex_of (drop i s) ≡ hex_of (get_or s i 0 ∷ []) ++ hex_of (drop (i + 1) s)
 unfolding hex_of
 hex_cons s i h = rw (add-one i, drop-cons s i 0 h)

@@ -7,7 +7,7 @@ use native.Mathlib.Numerals.{add-one}
 use native.Mathlib.Omega.{arith}
 use native.Mathlib.Nat.{zero-add, add-zero, suc-add, add-suc}
 use lib.ListN.{length, take, drop, get_or, set, length-set, length-drop, take-append-drop, drop_of_length-le}
-use lib.Seq.{drop-cons, sets, sets-eq, length-sets, take_at, drop_at, set-append_left, set_out, length-take-le, take-nil, get_or-drop, drop-drop, drop-set-lt, take-set-le}
+use lib.Seq.{drop-cons, sets, sets-eq, length-sets, take_at, drop_at, set-append_left, set_out, length-take-le, get_or-take, take-nil, get_or-drop, drop-drop, drop-set-lt, take-set-le}
 use borrow.Rule.Slice.PartMut.{put_mid}
 
 -- ---- a loop that stores vs one by one: what is left to store, from here on, gives the same
@@ -30,6 +30,10 @@ turn_many l (v ∷ vs) a (suc n) = rw (add-suc a n, ← suc-add a n) (turn_many 
 
 pub done : (l vs : List ℕ) (i : ℕ) → length vs ≤ i → sets l i (drop i vs) ≡ l
 done l vs i h = rw (drop_of_length-le vs {i = i} h)
+
+-- a loop that copies: what it stores at i is what the other list has there
+pub copied_turn : (l vs : List ℕ) (i : ℕ) → i < length vs → sets (set l i (get_or vs i 0)) (i + 1) (drop (i + 1) vs) ≡ sets l i (drop i vs)
+copied_turn l vs i h = turn l vs i (get_or vs i 0) h refl
 
 -- the last store of a run
 pub last : (l vs : List ℕ) (i v : ℕ) → suc i ≡ length vs → v ≡ get_or vs i 0 → set l i v ≡ sets l i (drop i vs)
@@ -79,6 +83,18 @@ pub sets_all : (l vs : List ℕ) → length vs ≡ length l → sets l 0 vs ≡ 
 sets_all l vs e =
     let z : drop (0 + length vs) l ≡ [] = drop_of_length-le l {i = 0 + length vs} (omega arith) in
     sets-eq vs l 0 (omega arith) ∙ rw z (append-nil vs)
+
+-- a loop that copies the first n of a list into one of n places, whatever n
+pub loaded_first : (n : ℕ) (l vs : List ℕ) → length l ≡ n → n ≤ length vs → sets l 0 (drop 0 (take n vs)) ≡ take n vs
+loaded_first n l vs e h = sets_all l (take n vs) (length-take-le n vs h ∙ sym e)
+
+pub loaded_turn : (n : ℕ) (l vs : List ℕ) (i : ℕ) → i < n → n ≤ length vs
+    → sets (set l i (get_or vs i 0)) (i + 1) (drop (i + 1) (take n vs)) ≡ sets l i (drop i (take n vs))
+loaded_turn n l vs i k h =
+    turn l (take n vs) i (get_or vs i 0) (omega (arith, length-take-le n vs h)) (sym (get_or-take n vs i 0 k))
+
+pub loaded : (n : ℕ) (l vs : List ℕ) (i : ℕ) → n ≤ i → n ≤ length vs → sets l i (drop i (take n vs)) ≡ l
+loaded n l vs i k h = done l (take n vs) i (omega (arith, length-take-le n vs h))
 
 -- a second run over the same places
 pub sets_again : (l us vs : List ℕ) → length us ≡ length vs → length vs ≤ length l → sets (sets l 0 us) 0 vs ≡ sets l 0 vs

@@ -35,6 +35,7 @@ pub fn store_block(store: &mut [u8], block: &[u8])
 }
 
 // All of src to the start of dst.
+#[tactic(auto, using(crate::proofs::Runs::copied_turn, crate::proofs::Runs::done))]
 fn copy_all(src: &[u8], dst: &mut [u8])
     requires { length src.now ≤ length dst.old }
     ensures { dst.new ≡ sets dst.old 0 src.now }

@@ -23,6 +23,7 @@ fn load_bytes(part: &[u8]) -> [u8; 64]
 }
 
 // The words of a whole message, into the start of out.
+#[tactic(auto, using(crate::proofs::Runs::copied_turn, crate::proofs::Runs::done))]
 fn put_words(out: &mut [u16], words: [u16; 32])
     requires { 32 ≤ length out.old }
     ensures { out.new ≡ sets out.old 0 words }

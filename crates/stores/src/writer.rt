@@ -22,6 +22,7 @@ fn load_words(words: &[u16]) -> [u16; 32]
 }
 
 // The bytes of a whole message, into the start of part.
+#[tactic(auto, using(crate::proofs::Runs::copied_turn, crate::proofs::Runs::done))]
 fn put_bytes(part: &mut [u8], bytes: [u8; 64])
     requires { 64 ≤ length part.old }
     ensures { part.new ≡ sets part.old 0 bytes }

@@ -1,12 +1,6 @@
-use Rattle.blockrun_text.proofs.Putting.{put_on, sets_cap, hex_cons}
+use Rattle.std.proofs.Common.{[], ◌∷◌, get_or, ◌∙◌, rules, arith}
+use Rattle.blockrun_text.proofs.Putting.{put_next, put_length, sets_cap, hex_cons}
 use Rattle.blockrun_text.specs.Printing.{hex_of}
-use borrow.Author.Rules.{rules}
-use native.Mathlib.Omega.{arith}
-use mathlib.Core.Path.{sym, ap, ◌∙◌}
-use mathlib.Core.List.{List, [], ◌∷◌}
-use Prim.Native.Nat.{ℕ, ◌+◌}
-use lib.ListN.{length, drop, get_or}
-use lib.Seq.{sets, length-sets}
 use Rattle.blockrun_text.proofs.print.put_hex_bytes.Goals as goal
 
 pub loop-i-init : goal.loop-i-init
@@ -17,9 +11,8 @@ loop-i-init c =
 pub loop-i-preserved : goal.loop-i-preserved
 unfolding hex_of
 loop-i-preserved c =
-    let a = c.args in
-    let s = a.bytes.now in
-    let i = c.loop-i.i in
-    let e = put_on c.loop-i.out _ (hex_of (get_or s i 0 ∷ [])) (hex_of (drop (i + 1) s)) c.loop-i.place _ c.put_hex_byte-place.ensures.1 c.put_hex_byte-place.ensures.0 in
-    let l = ap length c.put_hex_byte-place.ensures.1 ∙ length-sets c.loop-i.out c.loop-i.place (hex_of (get_or s i 0 ∷ [])) in
-    (search rules, omega (arith, l), omega (arith, c.put_hex_byte-place.ensures.0), e ∙ ap (λ (x : List ℕ). sets c.loop-i.out c.loop-i.place x) (sym (hex_cons s i (omega arith))) ∙ c.loop-i.invariant.3)
+    let s = c.args.bytes.now in
+    let p = c.put_hex_byte-place.ensures in
+    let l = put_length c.loop-i.out _ (hex_of (get_or s c.loop-i.i 0 ∷ [])) c.loop-i.place p.1 in
+    let e = put_next hex_of c.loop-i.out _ s c.loop-i.i c.loop-i.place _ (hex_cons s c.loop-i.i (omega arith)) p.1 p.0 in
+    (search rules, omega (arith, l), omega (arith, p.0), e ∙ c.loop-i.invariant.3)

@@ -1,26 +1,13 @@
-use Rattle.stores.proofs.Runs.{turn, done, sets_all}
-use lib.Seq.{length-take-le, get_or-take}
-use borrow.Author.Rules.{rules}
-use native.Mathlib.Omega.{arith}
-use mathlib.Core.Path.{sym, ◌∙◌}
-use Prim.Native.Nat.{◌<◌}
-use lib.ListN.{take}
+use Rattle.std.proofs.Common.{sym, ◌∙◌, rules}
+use Rattle.stores.proofs.Runs.{loaded_first, loaded_turn, loaded}
 use Rattle.stores.proofs.reader.load_bytes.Goals as goal
 
 pub loop-i-init : goal.loop-i-init
-loop-i-init c =
-    let s = c.args.part.now in
-    (search rules, search rules, sets_all _ (take 64 s) (length-take-le 64 s (search rules)))
+loop-i-init c = (search rules, search rules, loaded_first 64 _ c.args.part.now (search rules) (search rules))
 
 pub loop-i-preserved : goal.loop-i-preserved
 loop-i-preserved c =
-    let s = c.args.part.now in
-    let l = length-take-le 64 s (search rules) in
-    let h : c.loop-i.i < 64 = search rules in
-    (search rules, search rules, turn c.loop-i.out (take 64 s) c.loop-i.i _ (omega arith) (sym (get_or-take 64 s c.loop-i.i 0 h)) ∙ c.loop-i.invariant.2)
+    (search rules, search rules, loaded_turn 64 c.loop-i.out c.args.part.now c.loop-i.i (search rules) (search rules) ∙ c.loop-i.invariant.2)
 
 pub returns : goal.returns
-returns c =
-    let s = c.args.part.now in
-    let l = length-take-le 64 s (search rules) in
-    sym (done c.loop-i.out (take 64 s) c.loop-i.i (omega arith)) ∙ c.loop-i.invariant.2
+returns c = sym (loaded 64 c.loop-i.out c.args.part.now c.loop-i.i (search rules) (search rules)) ∙ c.loop-i.invariant.2
