@@ -1,6 +1,7 @@
 // A plain line loop, to count instructions against: each line `frame` is a tick, answered by its number and `ok`; any other
 // line is answered by its number, `no` and 0.
-// The emulator of the kit does not survive the start of Rust's own runtime, so C's `main` is named here: the loop is the same.
+// An emulator that bench/lines_speed.sh may use does not survive the start of Rust's own runtime, so C's `main` is named here: the
+// loop is the same.
 #![no_main]
 use std::io::{self, BufRead, BufReader, BufWriter, Write};
 

@@ -1,7 +1,7 @@
 #!/bin/sh
 # Instructions for one more `frame` line, by the program blockrun, by mawk's echo of line numbers and by a plain Rust line loop:
 # the difference of 2000 and 1000 lines behind one `link` line. Counted by callgrind on x86-64; elsewhere one instruction at a
-# time by the emulator of the kit, which runs x86-64 programs only:
+# time by the emulator of a kit that has one (rattle-kit-13f has none), which runs x86-64 programs only:
 #   MAWK   an x86-64 mawk (else the mawk of this machine, where it is x86-64)
 #   RUSTC  a rustc that has the standard library of x86-64 (else rustc)
 # What there is no program for is left out, and said.

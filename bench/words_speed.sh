@@ -1,6 +1,7 @@
 #!/bin/sh
 # Instructions of one call that writes, and of one that reads, a message of 64 bytes: the proved word writer and reader
-# against plain Rust on slices. Counted by callgrind on x86-64; elsewhere one instruction at a time by the emulator of the kit.
+# against plain Rust on slices. Counted by callgrind on x86-64; elsewhere one instruction at a time by the emulator of a kit that
+# has one (rattle-kit-13f has none).
 # usage, from the repository's root: sh bench/words_speed.sh
 set -e
 made=target/bench

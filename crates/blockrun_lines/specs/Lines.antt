@@ -1,8 +1,8 @@
 -- The lines that blockrun writes (document 01, "Pairs at the edges"): tab-parted, the line number, ok or no, and what follows.
 -- Assumes nothing.
-use Rattle.std.specs.Prelude.{ℕ, List, [], ◌∷◌, ◌++◌}
+use Rattle.std.specs.Prelude.{ℕ, Option, Some, None, Ok, Err, List, [], ◌∷◌, ◌++◌}
 use Rattle.blockrun_text.specs.Printing.{decimal_of, hex_of, words_of}
-use Rattle.words.specs.declared.answer.Answer.{Answer}
+use Rattle.words.specs.Refusal.{Answer, refusal_number}
 use Rattle.dist_controller.specs.declared.state.Finding.{Finding}
 
 -- a newline
@@ -22,8 +22,8 @@ unfoldable pub no_text : ℕ → ℕ → List ℕ
 no_text number refusal = start_text number ++ ((110 ∷ 111 ∷ 9 ∷ []) ++ (decimal_of refusal ++ end))
 
 abbrev pub answer_text : ℕ → Answer → List ℕ
-answer_text number Answer.Accepted = ok_text number
-answer_text number (Answer.Refused n) = no_text number n
+answer_text number (Ok u) = ok_text number
+answer_text number (Err r) = no_text number (refusal_number r)
 
 -- ok, a tab, the bytes in hex
 unfoldable pub take_text : ℕ → List ℕ → List ℕ
@@ -34,14 +34,14 @@ unfoldable pub sent_text : ℕ → ℕ → List ℕ → List ℕ
 sent_text number subaddress words = start_text number ++ ((111 ∷ 107 ∷ 9 ∷ 82 ∷ []) ++ (decimal_of subaddress ++ (words_of words ++ end)))
 
 -- reset, confirmed, refused, other for all else, lost for no reply
-abbrev pub finding_text : Finding → List ℕ
-finding_text Finding.Reset = 114 ∷ 101 ∷ 115 ∷ 101 ∷ 116 ∷ 10 ∷ []
-finding_text Finding.Confirmed = 99 ∷ 111 ∷ 110 ∷ 102 ∷ 105 ∷ 114 ∷ 109 ∷ 101 ∷ 100 ∷ 10 ∷ []
-finding_text Finding.Refused = 114 ∷ 101 ∷ 102 ∷ 117 ∷ 115 ∷ 101 ∷ 100 ∷ 10 ∷ []
-finding_text Finding.Other = 111 ∷ 116 ∷ 104 ∷ 101 ∷ 114 ∷ 10 ∷ []
-finding_text Finding.Lost = 108 ∷ 111 ∷ 115 ∷ 116 ∷ 10 ∷ []
-finding_text Finding.None = 110 ∷ 111 ∷ 110 ∷ 101 ∷ 10 ∷ []
+abbrev pub finding_text : Option Finding → List ℕ
+finding_text (Some Finding.Reset) = 114 ∷ 101 ∷ 115 ∷ 101 ∷ 116 ∷ 10 ∷ []
+finding_text (Some Finding.Confirmed) = 99 ∷ 111 ∷ 110 ∷ 102 ∷ 105 ∷ 114 ∷ 109 ∷ 101 ∷ 100 ∷ 10 ∷ []
+finding_text (Some Finding.Refused) = 114 ∷ 101 ∷ 102 ∷ 117 ∷ 115 ∷ 101 ∷ 100 ∷ 10 ∷ []
+finding_text (Some Finding.Other) = 111 ∷ 116 ∷ 104 ∷ 101 ∷ 114 ∷ 10 ∷ []
+finding_text (Some Finding.Lost) = 108 ∷ 111 ∷ 115 ∷ 116 ∷ 10 ∷ []
+finding_text None = 110 ∷ 111 ∷ 110 ∷ 101 ∷ 10 ∷ []
 
 -- ok, a tab, T27, a tab, the finding
-unfoldable pub found_text : ℕ → Finding → List ℕ
+unfoldable pub found_text : ℕ → Option Finding → List ℕ
 found_text number found = start_text number ++ ((111 ∷ 107 ∷ 9 ∷ 84 ∷ 50 ∷ 55 ∷ 9 ∷ []) ++ finding_text found)

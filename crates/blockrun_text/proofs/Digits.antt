@@ -3,11 +3,12 @@
 use mathlib.Core.Path.{◌≡◌, refl, sym, ap, ◌∙◌}
 use mathlib.Core.List.{List, [], ◌∷◌, ◌++◌, append_assoc}
 use Prim.Native.Nat.{ℕ, zero, suc, ◌+◌, ◌-◌, ◌*◌, ◌/◌, ◌%◌, ◌^◌, ◌≤◌, ◌<◌}
-use native.Mathlib.Nat.{pow-suc, add-zero, add-suc}
+use native.Mathlib.Nat.{pow-suc, zero-add, add-zero, add-suc}
 use native.Mathlib.Omega.{arith}
 use lib.Dec.{ltb}
 use lib.ListN.{length, set, length-append}
 use lib.Seq.{sets, set_comm}
+use Rattle.std.specs.Prelude.{Option, None, Some, IfNone, IfSome, unwrap_or}
 use Rattle.blockrun_text.specs.Printing.{spelled_on, decimal_of}
 use Rattle.blockrun_text.proofs.Reading.{by}
 use Rattle.blockrun_text.proofs.Decimal.{spelled_tail, spelled_short, spelled_long}
@@ -17,9 +18,6 @@ use Rattle.blockrun_text.proofs.Decimal.{spelled_tail, spelled_short, spelled_lo
 pow_more : (k d : ℕ) → 10 ^ k ≤ 10 ^ (k + d)
 pow_more k zero = let z : k + 0 ≡ k = omega arith in rw z (omega arith)
 pow_more k (suc d) = let p = pow-suc 10 (k + d) in rw (add-suc k d) (omega (arith, p, pow_more k d))
-
-pub pow_room : (k : ℕ) → k < 19 → 10 ^ k ≤ 1000000000000000000
-pow_room k h = let z : k + (18 - k) ≡ 18 = omega arith in rw z at (pow_more k (18 - k))
 
 spelled_one : (j n d : ℕ) → length (spelled_on j n (d ∷ [])) ≡ suc (length (spelled_on j n []))
 spelled_one j n d = ap length (spelled_tail j n (d ∷ [])) ∙ omega (arith, length-append (spelled_on j n []) (d ∷ []))
@@ -35,6 +33,16 @@ count_is (suc (suc k)) (suc j) n h l p q =
     let m = l (omega arith) in
     rw (spelled_long j n [] (omega arith), spelled_one j (n / 10) (48 + n % 10))
     (ap suc (count_is (suc k) j (n / 10) (omega arith) (λ t. omega arith) (omega arith) (omega arith)))
+
+-- as many as the logarithm says, and one
+pub count_by_log : (n : ℕ) (o : Option ℕ) → IfNone o (n ≡ 0) → IfSome o (λ k. 10 ^ k ≤ n) → IfSome o (λ k. n < 10 * 10 ^ k) → IfSome o (λ k. k < 20)
+    → unwrap_or o 0 + 1 ≡ length (decimal_of n)
+unfolding decimal_of
+count_by_log n None z a b c = count_is 1 20 n (omega arith) (λ h. omega arith) (omega arith) (omega arith)
+count_by_log n (Some k) z a b c =
+    let p = pow-suc 10 k in
+    let e : k + 1 ≡ suc k = omega arith in
+    rw e (count_is (suc k) 20 n (omega arith) (λ h. omega arith) (omega arith) (omega arith))
 
 -- ---- the last first
 
@@ -86,3 +94,8 @@ pub put_all : (l m : List ℕ) (a i k n rest : ℕ) → sets l a (last_of i rest
 unfolding last_of decimal_of
 put_all l m a zero k n rest v h e = v ∙ rw (e, ← spelled_last 20 n [])
 put_all l m a (suc i) k n rest v h e = let z : ⊥ = omega arith in absurd z
+
+-- the same from the first place on
+pub put_last_first : (l m : List ℕ) (i rest d : ℕ) → m ≡ set l (i - 1) d → d ≡ 48 + rest % 10 → 0 < i
+    → sets m 0 (last_of (i - 1) (rest / 10) []) ≡ sets l 0 (last_of i rest [])
+put_last_first l m i rest d e f h = put_last l m 0 i rest d (rw zero-add e) f h

@@ -1,7 +1,8 @@
-pub mod Reading
 pub mod Putting
+pub mod Reading
 pub mod Back
 pub mod Decimal
+pub mod Pages
 pub mod Digits
 pub mod Lines
 pub mod Examples

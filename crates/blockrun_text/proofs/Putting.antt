@@ -1,15 +1,16 @@
 -- Texts put into a list from a place on.
 -- Assumes nothing.
 use mathlib.Core.Path.{◌≡◌, refl, sym, ap, ◌∙◌}
-use mathlib.Core.List.{List, [], ◌∷◌, ◌++◌}
-use Prim.Native.Nat.{ℕ, suc, min, ◌+◌, ◌-◌, ◌*◌, ◌≤◌, ◌<◌}
+use mathlib.Core.List.{List, [], ◌∷◌, ◌++◌, append-nil, append_assoc}
+use Rattle.std.specs.List.{flat_map}
+use Prim.Native.Nat.{ℕ, zero, suc, min, ◌+◌, ◌-◌, ◌*◌, ◌<◌}
 use native.Mathlib.Numerals.{add-one}
 use native.Mathlib.Nat.{add-zero, add-suc, suc-add}
 use native.Mathlib.Omega.{arith}
 use borrow.Author.Tests.{leb-true, leb-false}
 use lib.Dec.{leb}
 use mathlib.Core.Bool.{Bool, true, false}
-use lib.ListN.{length, take, drop, get_or, set, drop_of_length-le}
+use lib.ListN.{length, take, drop, get_or, set}
 use lib.Seq.{drop-cons, sets, length-sets}
 use Rattle.stores.proofs.Runs.{take_least, sets_cut, sets_out}
 use Rattle.blockrun_text.specs.Printing.{hex_of, words_of}
@@ -63,6 +64,28 @@ pub words_cons : (s : List ℕ) (i : ℕ) → i < length s → words_of (drop i 
 unfolding words_of
 words_cons s i h = rw (add-one i, drop-cons s i 0 h)
 
+-- so the texts of a list's elements stand one behind the other
+pub hex_each : (s : List ℕ) → flat_map (λ x. hex_of (x ∷ [])) s ≡ hex_of s
+unfolding hex_of
+hex_each [] = refl
+hex_each (x ∷ s) = rw (hex_each s)
+
+pub words_each : (s : List ℕ) → flat_map (λ w. words_of (w ∷ [])) s ≡ words_of s
+unfolding words_of
+words_each [] = refl
+words_each (w ∷ s) = rw (words_each s)
+
+flat_map_suc : {A : Type 0} (f : A → List ℕ) (s : List A) (i : ℕ) (d : A) → i < length s
+    → flat_map f (take (suc i) s) ≡ flat_map f (take i s) ++ f (get_or s i d)
+flat_map_suc f [] i d h = let z : ⊥ = omega arith in absurd z
+flat_map_suc f (x ∷ s) zero d h = append-nil (f x)
+flat_map_suc f (x ∷ s) (suc i) d h =
+    rw (flat_map_suc f s i d (omega arith)) (sym (append_assoc (f x) (flat_map f (take i s)) (f (get_or s i d))))
+
+pub flat_map_more : {A : Type 0} (f : A → List ℕ) (s : List A) (i : ℕ) (d : A) → i < length s
+    → flat_map f (take (i + 1) s) ≡ flat_map f (take i s) ++ f (get_or s i d)
+flat_map_more f s i d h = rw (add-one i) (flat_map_suc f s i d h)
+
 pub length_hex_of : (s : List ℕ) → length (hex_of s) ≡ 2 * length s
 unfolding hex_of
 length_hex_of [] = refl
@@ -72,12 +95,3 @@ pub length_words_of : (s : List ℕ) → length (words_of s) ≡ 5 * length s
 unfolding words_of
 length_words_of [] = refl
 length_words_of (x ∷ s) = omega (arith, length_words_of s)
-
--- ---- where there is nothing more to put, or no room
-
-pub put_rest : (l vs : List ℕ) (i : ℕ) → min (length l) (length vs) ≤ i → sets l i (drop i vs) ≡ l
-put_rest l vs i h = go (leb (length l) i) refl
-  where
-    go : (t : Bool) → leb (length l) i ≡ t → sets l i (drop i vs) ≡ l
-    go true q = sets_out l (drop i vs) i (leb-true (length l) i q)
-    go false q = let k = leb-false (length l) i q in rw (drop_of_length-le vs {i = i} (omega arith))

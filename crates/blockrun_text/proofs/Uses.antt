@@ -5,17 +5,20 @@ use mathlib.Core.Bool.{true, false, not}
 use mathlib.Core.List.{List, [], ◌∷◌, ◌++◌}
 use Prim.Native.Nat.{ℕ, zero, suc, min, ◌+◌, ◌-◌, ◌/◌, ◌%◌, ◌≤◌, ◌<◌}
 use native.Mathlib.Omega.{arith}
-use borrow.Author.Tests.{ltb-false, eqb-true, not-false}
+use borrow.Author.Tests.{lt-ltb, ltb-false, eqb-true, not-false}
 use lib.Dec.{eqb, ltb}
 use lib.ListN.{length, take, drop, get_or, length-drop}
 use Rattle.words.specs.declared.control.Quality.{Quality}
 use Rattle.words.specs.declared.control.Quality.TheVariants.{BestEffort, Verified}
-use Rattle.blockrun_text.specs.Splitting.{first_newline, end_of}
-use Rattle.blockrun_text.specs.Forms.{starts_with, is_text, line_of, bus_of, send_of, link_of, five_of, reset_text, frame_text, frame_line, take_text, done_text, lost_text, absent_text, verified_text, best_text, link_text}
+use Rattle.blockrun_text.specs.Splitting.{first_newline, end_of, newline_of}
+use Rattle.blockrun_text.specs.Forms.{starts_with, is_text, line_of, fields_of, bus_of, send_of, link_of, five_of, reset_text, frame_text, frame_line, take_text, done_text, lost_text, absent_text, verified_text, best_text, link_text}
 use Rattle.blockrun_text.specs.Hex.{all_digits, bytes_of, block_of, block_size_of}
 use Rattle.blockrun_text.specs.Printing.{spelled_on, decimal_of}
+use Rattle.blockrun_text.specs.Numbers.{number_at, number_after}
 use Rattle.blockrun_text.specs.declared.number.Number.{Number}
-use Rattle.blockrun_text.specs.declared.parse.Line.TheVariants.{Frame, Send, Other}
+use Rattle.blockrun_text.specs.declared.parse.Line.TheVariants.{Frame, Send}
+use Rattle.blockrun_text.specs.declared.parse.Line.{Line}
+use Rattle.std.specs.Prelude.{Option, None, Some, option_and_then}
 use Rattle.blockrun_text.proofs.Reading.{by, clash, digit_small}
 
 -- ---- a line's end
@@ -53,8 +56,12 @@ module _ (buffer : List ℕ) (from : ℕ) (h : starts_with frame_line (drop from
       let e : first_newline (drop from buffer) ≡ 5 = ap first_newline split in
       omega (arith, frame_inside)
 
-  pub frame_read : line_of (take 5 (drop from buffer)) ≡ Frame
-  unfolding line_of is_text starts_with
+  pub frame_newline : newline_of buffer from ≡ Some (from + 5)
+  unfolding newline_of
+  frame_newline = simp (frame_end, lt-ltb (from + 5) (length buffer) (omega (arith, frame_inside)))
+
+  pub frame_read : line_of (take 5 (drop from buffer)) ≡ Some Frame
+  unfolding line_of fields_of is_text starts_with
   frame_read = ap (λ (l : List ℕ). line_of (take 5 l)) split
 
 -- ---- a number's length
@@ -90,10 +97,10 @@ pub record Carries (line : List ℕ) (at digits : ℕ) : Type 0 where
   pub hex : all_digits (drop at line) ≡ true
 
 module _ (line : List ℕ) (quality : Quality) (at digits : ℕ) where
-  no_send : {G : Type 0} → Other ≡ Send quality at digits → G
+  no_send : {G : Type 0} → None ≡ Some (Send quality at digits) → G
   no_send e = clash (cc)
 
-  send_only : (q : Quality) → send_of q line ≡ Send quality at digits → Carries line at digits
+  send_only : (q : Quality) → send_of q line ≡ Some (Send quality at digits) → Carries line at digits
   unfolding send_of
   send_only q h =
       by (ltb (length line) 7) (λ e1. no_send (simp e1 at h)) (λ e1.
@@ -106,19 +113,28 @@ module _ (line : List ℕ) (quality : Quality) (at digits : ℕ) where
       let n : digits ≡ length line - 7 = cc in
       record { start = a; whole = omega arith; even = rw n v; hex = rw a (not-false _ e3) })))
 
-  five_not : {G : Type 0} (len : ℕ) (p q r s t : Number) → five_of len p q r s t ≡ Send quality at digits → G
+  five_not : {G : Type 0} (len : ℕ) (p q r s t : Number) → five_of len p q r s t ≡ Some (Send quality at digits) → G
   unfolding five_of
   five_not len p q r s t h =
-      by (not t.good) (λ e1. no_send (simp e1 at h)) (λ e1.
-      by (not (eqb t.end len)) (λ e2. no_send (simp (e1, e2) at h)) (λ e2.
-      let w = simp (e1, e2) at h in
-      clash (cc)))
+      by (not (eqb t.end len)) (λ e. no_send (simp e at h)) (λ e.
+      let w = simp e at h in
+      clash (cc))
 
-  link_not : {G : Type 0} → link_of line ≡ Send quality at digits → G
+  and_then_not : {A G : Type 0} (o : Option A) (f : A → Option Line) → ((x : A) → f x ≡ Some (Send quality at digits) → G)
+      → option_and_then f o ≡ Some (Send quality at digits) → G
+  and_then_not None f g h = no_send h
+  and_then_not (Some x) f g h = g x h
+
+  link_not : {G : Type 0} → link_of line ≡ Some (Send quality at digits) → G
   unfolding link_of
-  link_not h = five_not (length line) _ _ _ _ _ h
+  link_not h =
+      and_then_not (number_at line 5) _ (λ p.
+      and_then_not (number_after line p) _ (λ q.
+      and_then_not (number_after line q) _ (λ r.
+      and_then_not (number_after line r) _ (λ s.
+      and_then_not (number_after line s) _ (λ t. five_not (length line) p q r s t))))) h
 
-  bus_not : {G : Type 0} → bus_of line ≡ Send quality at digits → G
+  bus_not : {G : Type 0} → bus_of line ≡ Some (Send quality at digits) → G
   unfolding bus_of
   bus_not h =
       by (is_text done_text line) (λ e1. let w = simp e1 at h in clash (cc)) (λ e1.
@@ -126,8 +142,8 @@ module _ (line : List ℕ) (quality : Quality) (at digits : ℕ) where
       by (is_text absent_text line) (λ e3. let w = simp (e1, e2, e3) at h in clash (cc)) (λ e3.
       no_send (simp (e1, e2, e3) at h))))
 
-  pub send_carries : line_of line ≡ Send quality at digits → Carries line at digits
-  unfolding line_of
+  pub send_carries : line_of line ≡ Some (Send quality at digits) → Carries line at digits
+  unfolding line_of fields_of
   send_carries h =
       by (is_text reset_text line) (λ e1. let w = simp e1 at h in clash (cc)) (λ e1.
       by (is_text frame_text line) (λ e2. let w = simp (e1, e2) at h in clash (cc)) (λ e2.

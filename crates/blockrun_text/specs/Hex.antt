@@ -1,6 +1,6 @@
 -- Hexadecimal digits in capitals: 0 to 9 are 48 to 57, A to F are 65 to 70.
 -- Assumes nothing.
-use Rattle.std.specs.Prelude.{ℕ, min, ◌+◌, ◌-◌, ◌*◌, ◌/◌, ◌%◌, Bool, true, false, cond, List, [], ◌∷◌, ltb, length, take, drop}
+use Rattle.std.specs.Prelude.{ℕ, min, ◌+◌, ◌-◌, ◌*◌, ◌/◌, ◌%◌, Bool, true, false, cond, List, [], ◌∷◌, Option, None, Some, ltb, length, take, drop}
 
 unfoldable pub is_digit : ℕ → Bool
 is_digit x = cond (ltb x 48) false (cond (ltb x 58) true (cond (ltb x 65) false (ltb x 71)))
@@ -12,6 +12,10 @@ all_digits (x ∷ bytes) = cond (is_digit x) (all_digits bytes) false
 -- a digit's value, 0 for another byte
 unfoldable pub digit_value_of : ℕ → ℕ
 digit_value_of x = cond (ltb x 48) 0 (cond (ltb x 58) (x - 48) (cond (ltb x 65) 0 (cond (ltb x 71) (x - 55) 0)))
+
+-- the value of a digit, none of another byte
+unfoldable pub digit_read : ℕ → Option ℕ
+digit_read x = cond (is_digit x) (Some (digit_value_of x)) None
 
 -- the bytes of two digits each; a digit without its second is none
 unfoldable pub bytes_of : List ℕ → List ℕ

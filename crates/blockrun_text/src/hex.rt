@@ -1,64 +1,25 @@
 // Hexadecimal digits in capitals.
-ghost use Rattle.std.specs.Prelude.{◌≡◌, ◌+◌, ◌*◌, drop};
-ghost use Rattle.blockrun_text.specs.Hex.{is_digit, all_digits, digit_value_of, digit_of};
+ghost use Rattle.std.specs.Prelude.{◌≡◌, ◌+◌, ◌*◌};
+ghost use Rattle.blockrun_text.specs.Hex.{digit_read, digit_value_of, digit_of};
 
-// 0 to 9 and A to F.
-#[tactic(auto, unfolding(crate::specs::Hex::is_digit))]
-pub fn is_digit(byte: u8) -> bool
-    ensures { result ≡ is_digit byte }
+// A digit's value. Small letters are no digits.
+#[tactic(auto, unfolding(crate::specs::Hex::digit_read, crate::specs::Hex::is_digit, crate::specs::Hex::digit_value_of))]
+pub fn digit_value(byte: u8) -> Option<u8>
+    ensures { result ≡ digit_read byte }
 {
-    if byte < 48 {
-        return false;
+    match byte {
+        b'0'..=b'9' => Some(byte - b'0'),
+        b'A'..=b'F' => Some(byte - b'A' + 10),
+        _ => None,
     }
-    if byte < 58 {
-        return true;
-    }
-    if byte < 65 {
-        return false;
-    }
-    byte < 71
 }
 
-// Whether each byte from `from` on is a digit.
-pub fn all_digits(line: &[u8], from: usize) -> bool
-    ensures { result ≡ all_digits (drop from line.now) }
-{
-    let mut i = from;
-    while i < line.len() {
-        if !is_digit(line[i]) {
-            return false;
-        }
-        i += 1;
-    }
-    true
-}
-
-// A digit's value, 0 for another byte.
-#[tactic(auto, unfolding(crate::specs::Hex::digit_value_of))]
-fn digit_value(byte: u8) -> u8
-    ensures { result ≡ digit_value_of byte }
-{
-    if byte < 48 {
-        return 0;
-    }
-    if byte < 58 {
-        return byte - 48;
-    }
-    if byte < 65 {
-        return 0;
-    }
-    if byte < 71 {
-        return byte - 55;
-    }
-    0
-}
-
-// The byte of two digits.
-#[tactic(auto, using(crate::proofs::Reading::digit_small))]
+// The byte of two digits, in which another byte counts as 0.
+#[tactic(auto, using(crate::proofs::Reading::digit_small, crate::proofs::Reading::digit_or))]
 pub fn byte_of(high: u8, low: u8) -> u8
     ensures { result ≡ digit_value_of high * 16 + digit_value_of low }
 {
-    digit_value(high) * 16 + digit_value(low)
+    digit_value(high).unwrap_or(0) * 16 + digit_value(low).unwrap_or(0)
 }
 
 // A number's last digit.
@@ -68,7 +29,8 @@ pub fn last_digit(n: u16) -> u8
 {
     let low = (n % 16) as u8;
     if low < 10 {
-        return 48 + low;
+        b'0' + low
+    } else {
+        b'A' - 10 + low
     }
-    55 + low
 }

@@ -7,4 +7,3 @@ mod number;
 pub mod parse;
 pub mod print;
 pub mod split;
-mod text;

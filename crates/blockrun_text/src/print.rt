@@ -1,183 +1,144 @@
-// The parts of an answer, put into a lent buffer from byte `at` on. What does not fit is not written. Each call gives the
-// place behind what it put, at most the buffer's length, so calls follow on each other.
-ghost use Rattle.std.specs.Prelude.{◌≡◌, [], ◌∷◌, ◌+◌, ◌*◌, ◌≤◌, ◌%◌, length, set, take};
+// The parts of an answer, put on a page.
+ghost use Rattle.std.specs.Prelude.{◌≡◌, ◌≤◌, ℕ, List, [], ◌∷◌, length, set};
 ghost use Rattle.std.proofs.lemmas.List.Edits.{sets};
-ghost use Rattle.blockrun_text.specs.Printing.{behind, hex_of, word_of, words_of, decimal_of};
+ghost use Rattle.std.specs.List.{flat_map};
+ghost use Rattle.blockrun_text.specs.Printing.{hex_of, word_of, words_of, decimal_of};
+ghost use Rattle.blockrun_text.specs.Pages.{put};
 
 use crate::hex::last_digit;
-use stores::sizes::least;
 
-// The first n bytes of text.
-fn put_some(out: &mut [u8], at: usize, text: &[u8], n: usize)
-    requires { (n ≤ length text.now) × (at + n ≤ length out.old) }
-    ensures { out.new ≡ sets out.old at (take n text.now) }
-{
-    let mut i: usize = 0;
-    while i < n {
-        out[at + i] = text[i];
-        i += 1;
-    }
-}
-
-// All of text, as much as fits.
-pub fn put_text(out: &mut [u8], at: usize, text: &[u8]) -> usize
-    ensures { (result ≡ behind (length out.old) at (length text.now))
-        × (out.new ≡ sets out.old at text.now) }
-{
-    if out.len() <= at {
-        return out.len();
-    }
-    let n = least(text.len(), out.len() - at);
-    put_some(out, at, text, n);
-    at + n
-}
-
-// Four bytes: with room for all of them they are stored at once.
-pub fn put_four(out: &mut [u8], at: usize, a: u8, b: u8, c: u8, d: u8) -> usize
-    ensures { (result ≡ behind (length out.old) at 4)
-        × (out.new ≡ sets out.old at (a ∷ b ∷ c ∷ d ∷ [])) }
-{
-    if out.len() <= at {
-        return out.len();
-    }
-    if out.len() - at < 4 {
-        let bytes = [a, b, c, d];
-        return put_text(out, at, &bytes);
-    }
-    out[at] = a;
-    out[at + 1] = b;
-    out[at + 2] = c;
-    out[at + 3] = d;
-    at + 4
-}
-
-fn decimal_digit(n: u64) -> u8
-    ensures { result ≡ 48 + n % 10 }
-{
-    48 + (n % 10) as u8
-}
-
-// How many digits a number has: `bound` is the least number with more than k.
-#[tactic(auto, unfolding(crate::specs::Printing::decimal_of))]
+// How many digits a number has.
+#[tactic(auto, using(crate::proofs::Digits::count_by_log))]
 fn digit_count(n: u64) -> usize
     ensures { result ≡ length (decimal_of n) }
 {
-    let mut bound: u64 = 10;
-    let mut k: usize = 1;
-    while k < 19 {
-        if n < bound {
-            return k;
-        }
-        bound = bound * 10;
-        k += 1;
-    }
-    if n < bound { 19 } else { 20 }
+    n.checked_ilog10().unwrap_or(0) as usize + 1
 }
 
-// The byte in place i behind `at`, where that is inside.
-fn put_byte(out: &mut [u8], at: usize, i: usize, byte: u8)
-    requires { at ≤ length out.old }
-    ensures { out.new ≡ set out.old (at + i) byte }
+// The byte in place i, where that is inside. Nothing is proved of what a `get_mut` or a reversed `iter_mut` leaves.
+fn put_byte(room: &mut [u8], i: usize, byte: u8)
+    ensures { room.new ≡ set room.old i byte }
 {
-    if out.len() - at <= i {
-        return;
+    if i < room.len() {
+        room[i] = byte;
     }
-    out[at + i] = byte;
 }
 
-// The k digits of a number, the last one first.
-fn put_digits(out: &mut [u8], at: usize, k: usize, n: u64)
-    requires { (at ≤ length out.old) × (k ≡ length (decimal_of n)) }
-    ensures { out.new ≡ sets out.old at (decimal_of n) }
+// A number's digits, the last one first, as many as fit: says how many there are.
+#[tactic(auto, using(crate::proofs::Digits::put_last_first, crate::proofs::Digits::put_all))]
+fn put_digits(room: &mut [u8], n: u64) -> usize
+    ensures { (result ≡ length (decimal_of n)) × (room.new ≡ sets room.old 0 (decimal_of n)) }
 {
-    let mut i = k;
+    let size = digit_count(n);
     let mut rest = n;
-    while 0 < i {
-        i -= 1;
-        put_byte(out, at, i, decimal_digit(rest));
-        rest = rest / 10;
+    for i in (0..size).rev() {
+        put_byte(room, i, b'0' + (rest % 10) as u8);
+        rest /= 10;
+    }
+    size
+}
+
+// A lent buffer that is written from byte `at` on. What does not fit is not written. Each put leaves `at` behind what it put,
+// at most at the buffer's length, so puts follow on each other.
+#[derive(Drop)]
+pub struct Page<'a> {
+    pub bytes: &'a mut [u8],
+    pub at: usize,
+}
+
+impl Page<'_> {
+    // All of text, as much as fits. A text that fits is stored at once where its length is known.
+    #[tactic(auto, using(crate::proofs::Pages::put_whole, crate::proofs::Pages::put_part))]
+    pub fn put_text(&mut self, text: &[u8])
+        ensures { self.new ≡ put self.old text.now }
+    {
+        let at = self.at.min(self.bytes.len());
+        let room = self.bytes.len() - at;
+        if room < text.len() {
+            self.bytes[at..].copy_from_slice(&text[..room]);
+            self.at = at + room;
+            return;
+        }
+        let end = at + text.len();
+        self.bytes[at..end].copy_from_slice(text);
+        self.at = end;
+    }
+
+    // A number in decimal, with no leading zero.
+    #[tactic(auto, using(crate::proofs::Pages::put_behind))]
+    pub fn put_decimal(&mut self, n: u64)
+        ensures { self.new ≡ put self.old (decimal_of n) }
+    {
+        let at = self.at.min(self.bytes.len());
+        let room = self.bytes.len() - at;
+        let size = put_digits(&mut self.bytes[at..], n);
+        self.at = at + size.min(room);
+    }
+
+    // Each item behind the last one.
+    #[tactic(auto, using(crate::proofs::Pages::put_none))]
+    fn put_each<T: Shown>(&mut self, items: &[T])
+        ensures { self.new ≡ put self.old (flat_map T.text items.now) }
+    {
+        self.at = self.at.min(self.bytes.len());
+        for item in items {
+            item.put_on(self);
+        }
+    }
+
+    // Two digits a byte.
+    #[tactic(auto, using(crate::proofs::Putting::hex_each))]
+    pub fn put_hex_bytes(&mut self, bytes: &[u8])
+        ensures { self.new ≡ put self.old (hex_of bytes.now) }
+    {
+        self.put_each(bytes);
+    }
+
+    // Four digits.
+    pub fn put_hex_word(&mut self, word: u16)
+        ensures { self.new ≡ put self.old (word_of word) }
+    {
+        self.put_text(&[
+            last_digit(word / 4096),
+            last_digit(word / 256),
+            last_digit(word / 16),
+            last_digit(word),
+        ]);
+    }
+
+    // A tab and four digits for each word.
+    #[tactic(auto, using(crate::proofs::Putting::words_each))]
+    pub fn put_words(&mut self, words: &[u16])
+        ensures { self.new ≡ put self.old (words_of words.now) }
+    {
+        self.put_each(words);
     }
 }
 
-// A number in decimal, with no leading zero.
-pub fn put_decimal(out: &mut [u8], at: usize, n: u64) -> usize
-    ensures { (result ≡ behind (length out.old) at (length (decimal_of n)))
-        × (out.new ≡ sets out.old at (decimal_of n)) }
-{
-    if out.len() <= at {
-        return out.len();
+// An item of a list, as an answer shows it.
+trait Shown: Copy {
+    ghost text: { Self → List ℕ };
+
+    fn put_on(self, page: &mut Page<'_>)
+        ensures { page.new ≡ put page.old (text self) };
+}
+
+impl Shown for u8 {
+    ghost text = { λ byte. hex_of (byte ∷ []) };
+
+    #[tactic(auto, unfolding(crate::specs::Printing::hex_of))]
+    fn put_on(self, page: &mut Page<'_>) {
+        let n = u16::from(self);
+        page.put_text(&[last_digit(n / 16), last_digit(n)]);
     }
-    let room = out.len() - at;
-    let k = digit_count(n);
-    put_digits(out, at, k, n);
-    at + least(k, room)
 }
 
-#[tactic(auto, unfolding(crate::specs::Printing::hex_of))]
-fn put_hex_byte(out: &mut [u8], at: usize, byte: u8) -> usize
-    ensures { (result ≡ behind (length out.old) at 2)
-        × (out.new ≡ sets out.old at (hex_of (byte ∷ []))) }
-{
-    let n = byte as u16;
-    let digits = [last_digit(n / 16), last_digit(n)];
-    put_text(out, at, &digits)
-}
+impl Shown for u16 {
+    ghost text = { λ word. words_of (word ∷ []) };
 
-// Two digits a byte.
-#[tactic(auto, unfolding(crate::specs::Printing::hex_of))]
-pub fn put_hex_bytes(out: &mut [u8], at: usize, bytes: &[u8]) -> usize
-    ensures { (result ≡ behind (length out.old) at (2 * length bytes.now))
-        × (out.new ≡ sets out.old at (hex_of bytes.now)) }
-{
-    let mut place = least(out.len(), at);
-    let mut i: usize = 0;
-    while i < bytes.len() {
-        place = put_hex_byte(out, place, bytes[i]);
-        i += 1;
+    #[tactic(auto, using(crate::proofs::Pages::puts_law), unfolding(crate::specs::Printing::words_of))]
+    fn put_on(self, page: &mut Page<'_>) {
+        page.put_text(b"\t");
+        page.put_hex_word(self);
     }
-    place
-}
-
-// Four digits.
-pub fn put_hex_word(out: &mut [u8], at: usize, word: u16) -> usize
-    ensures { (result ≡ behind (length out.old) at 4)
-        × (out.new ≡ sets out.old at (word_of word)) }
-{
-    let digits = [
-        last_digit(word / 4096),
-        last_digit(word / 256),
-        last_digit(word / 16),
-        last_digit(word),
-    ];
-    put_text(out, at, &digits)
-}
-
-#[tactic(auto, unfolding(crate::specs::Printing::words_of))]
-fn put_field(out: &mut [u8], at: usize, word: u16) -> usize
-    ensures { (result ≡ behind (length out.old) at 5)
-        × (out.new ≡ sets out.old at (words_of (word ∷ []))) }
-{
-    let field = [
-        b'\t',
-        last_digit(word / 4096),
-        last_digit(word / 256),
-        last_digit(word / 16),
-        last_digit(word),
-    ];
-    put_text(out, at, &field)
-}
-
-// A tab and four digits for each word.
-#[tactic(auto, unfolding(crate::specs::Printing::words_of))]
-pub fn put_words(out: &mut [u8], at: usize, words: &[u16]) -> usize
-    ensures { (result ≡ behind (length out.old) at (5 * length words.now))
-        × (out.new ≡ sets out.old at (words_of words.now)) }
-{
-    let mut place = least(out.len(), at);
-    let mut i: usize = 0;
-    while i < words.len() {
-        place = put_field(out, place, words[i]);
-        i += 1;
-    }
-    place
 }

@@ -1,23 +1,22 @@
 // Where a line ends.
-ghost use Rattle.std.specs.Prelude.{◌≡◌, drop};
-ghost use Rattle.blockrun_text.specs.Splitting.{end_of};
+ghost use Rattle.std.specs.Prelude.{◌≡◌, ◌≤◌, ◌<◌, length, drop, eqb, position, IfSome};
+ghost use Rattle.blockrun_text.specs.Splitting.{newline_of};
 ghost use Rattle.blockrun_text.specs.Forms.{starts_with, frame_line};
 
-use crate::text::starts_with;
-
-// The place of the first newline at or after `from`, the buffer's length where there is none.
-#[tactic(auto, unfolding(crate::specs::Splitting::end_of), using(crate::proofs::Reading::newline, crate::proofs::Reading::no_newline))]
-pub fn line_end(buffer: &[u8], from: usize) -> usize
-    ensures { result ≡ end_of buffer.now from }
+fn first_newline(bytes: &[u8]) -> Option<usize>
+    ensures { result ≡ position (λ x. eqb x 10) bytes.now }
 {
-    let mut i = from;
-    while i < buffer.len() {
-        if buffer[i] == b'\n' {
-            return i;
-        }
-        i += 1;
-    }
-    buffer.len()
+    bytes.iter().position(|b| *b == b'\n')
+}
+
+// The place of the first newline at or after `from`.
+#[tactic(auto, using(crate::proofs::Reading::newline_at, crate::proofs::Reading::newline_none), unfolding(crate::specs::Splitting::newline_of, crate::specs::Splitting::end_of))]
+pub fn line_end(buffer: &[u8], from: usize) -> Option<usize>
+    ensures place { result ≡ newline_of buffer.now from }
+    ensures inside { IfSome result (λ end. (from ≤ end) × (end < length buffer.now)) }
+{
+    let size = first_newline(buffer.get(from..)?)?;
+    Some(from + size)
 }
 
 // Whether the line at `from` is a whole `frame`, seen without a search for its end: an idle link has no other lines.
@@ -25,8 +24,8 @@ pub fn line_end(buffer: &[u8], from: usize) -> usize
 pub fn frame_at(buffer: &[u8], from: usize) -> bool
     ensures { result ≡ starts_with frame_line (drop from buffer.now) }
 {
-    if buffer.len() < from {
-        return false;
-    }
-    starts_with(b"frame\n", &buffer[from..])
+    matches!(
+        buffer.get(from..),
+        Some([b'f', b'r', b'a', b'm', b'e', b'\n', ..])
+    )
 }

@@ -10,6 +10,9 @@ use Rattle.words.specs.Cutting.{part_of}
 use Rattle.words.proofs.Bytes.{length_words_of}
 use Rattle.words.specs.Cutting.{messages_of}
 use Rattle.words.proofs.Ranges.{by}
+use Rattle.std.proofs.Common.{◌++◌}
+use Rattle.std.proofs.lemmas.List.Edits.{sets}
+use Rattle.stores.proofs.Runs.{part_back}
 use Rattle.stores.specs.Reading.{words_read_of, message_words_read_of}
 use lib.Dec.{ltb, lit≤}
 use Rattle.dist_controller.specs.Asked.{last_of}
@@ -54,3 +57,8 @@ few_in CutResetting c store = lit≤ tt
 pub words_few : (c : Controller) (store : List ℕ) → length (words_asked c store) ≤ 32
 unfolding words_asked
 words_few c store = few_in c.phase c store
+
+-- the words stand at the start of the buffer that its first part was lent from
+pub front : (c : Controller) (store out ys : List ℕ) → 32 ≤ length out → ys ≡ sets (take 32 out) 0 (words_asked c store)
+    → ys ++ drop 32 out ≡ sets out 0 (words_asked c store)
+front c store out ys h e = part_back out ys (words_asked c store) 0 32 e h (words_few c store)

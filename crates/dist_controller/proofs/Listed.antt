@@ -4,10 +4,9 @@ use Prim.Native.Nat.{ℕ, zero, suc, ◌+◌, ◌-◌, ◌<◌, ◌≤◌}
 use mathlib.Core.Path.{◌≡◌, refl, ap, ◌∙◌}
 use borrow.Author.Tests.{ne_eqb}
 use native.Mathlib.Omega.{arith}
-use lib.ListN.{length, get_or}
+use Rattle.std.proofs.Common.{length, Some, slice_get}
 use Rattle.words.specs.declared.link.Link.{Link}
 use Rattle.dist_controller.specs.Asked.{transfer_message, messages_asked, message_list, last_of, asked_of}
-use Rattle.dist_controller.specs.declared.asked.Asked.TheVariants.{Nothing}
 use Rattle.dist_controller.specs.declared.state.Phase.TheVariants.{Sending}
 use Rattle.dist_controller.specs.declared.state.Controller.{Controller}
 
@@ -21,7 +20,7 @@ pub length_list : (c : Controller) → length (message_list c) ≡ c.transfer.go
 unfolding message_list
 length_list c = length_asked c.link c.transfer.size 0 c.transfer.gone
 
-asked_at : (link : Link) (size i n k : ℕ) → k < n → get_or (messages_asked link size i n) k Nothing ≡ transfer_message link size (i + k)
+asked_at : (link : Link) (size i n k : ℕ) → k < n → slice_get (messages_asked link size i n) k ≡ Some (transfer_message link size (i + k))
 unfolding messages_asked
 asked_at link size i zero k h = let z : ⊥ = omega arith in absurd z
 asked_at link size i (suc n) zero h = let e : i + 0 ≡ i = omega arith in rw e
@@ -29,7 +28,7 @@ asked_at link size i (suc n) (suc k) h =
     let e : i + suc k ≡ suc i + k = omega arith in
     rw e (asked_at link size (suc i) n k (omega arith))
 
-pub last_asked : (c : Controller) → c.phase ≡ Sending → 1 ≤ c.transfer.gone → get_or (message_list c) (c.transfer.gone - 1) Nothing ≡ asked_of c
+pub last_asked : (c : Controller) → c.phase ≡ Sending → 1 ≤ c.transfer.gone → slice_get (message_list c) (c.transfer.gone - 1) ≡ asked_of c
 unfolding message_list asked_of last_of
 last_asked c p h =
     let n = c.transfer.gone in

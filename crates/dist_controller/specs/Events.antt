@@ -3,13 +3,15 @@
 use Rattle.std.specs.Prelude.{Bool, false, cond, not, leb}
 use Rattle.words.specs.Tick.{next_tick}
 use Rattle.words.specs.Link.{configured_of}
+use Rattle.words.specs.Refusal.{accept, refuse}
+use Rattle.words.specs.declared.refusal.Refusal.TheVariants.{NotReady}
+use Rattle.words.specs.declared.refusal.Stepped.{Stepped}
 use Rattle.dist_controller.specs.State.{is_open, fresh_of, in_phase, with_clock, with_standing, one_more, ended_of}
-use Rattle.dist_controller.specs.Told.{accept, refuse, age_now}
+use Rattle.dist_controller.specs.Told.{age_now}
 use Rattle.dist_controller.specs.declared.state.Phase.{Phase}
 use Rattle.dist_controller.specs.declared.state.Phase.TheVariants.{Idle, Sending, Waiting, Reading, Resetting, ResetWaiting, ResetReading, CutSending, CutReading, CutResetting}
 use Rattle.dist_controller.specs.declared.state.Fate.TheVariants as Fate
 use Rattle.dist_controller.specs.declared.state.Controller.{Controller}
-use Rattle.dist_controller.specs.declared.told.Stepped.{Stepped}
 
 -- ---- a frame
 
@@ -36,8 +38,8 @@ ask_in CutResetting c = c
 unfoldable pub ask_again : Controller → Controller
 ask_again c = cond (not (due_of c)) c (ask_in c.phase c)
 
-unfoldable pub frame_of : Controller → Stepped
-frame_of c = cond (not (configured_of c.link)) (refuse 1 c) (accept (ask_again (ticked_of c)))
+unfoldable pub frame_of : Controller → Stepped Controller (Unit {0})
+frame_of c = cond (not (configured_of c.link)) (refuse NotReady c) (accept (ask_again (ticked_of c)))
 
 -- ---- a Reset
 
@@ -62,12 +64,12 @@ voided_of phase c = with_standing (record { accepted = false; count = c.standing
 unfoldable pub cut_transfer : Phase → Controller → Controller
 cut_transfer phase c = cond (is_open c.phase) (ended_of Fate.Abandoned phase c) (in_phase phase c)
 
-unfoldable pub reset_of : Controller → Stepped
+unfoldable pub reset_of : Controller → Stepped Controller (Unit {0})
 reset_of c =
-    cond (not (configured_of c.link)) (refuse 1 c)
+    cond (not (configured_of c.link)) (refuse NotReady c)
     (accept (voided_of (cut_of c.phase) (cut_transfer (cut_of c.phase) c)))
 
 -- ---- a restart keeps configuration and tick; all else is fresh
 
-unfoldable pub restart_of : Controller → Stepped
-restart_of c = cond (not (configured_of c.link)) (refuse 1 c) (accept (fresh_of c.link c.clock.tick))
+unfoldable pub restart_of : Controller → Stepped Controller (Unit {0})
+restart_of c = cond (not (configured_of c.link)) (refuse NotReady c) (accept (fresh_of c.link c.clock.tick))

@@ -1,18 +1,20 @@
 -- The words of the message asked for (document 01, "Distribution").
 -- Assumes nothing.
-use Rattle.std.specs.Prelude.{ℕ, Bool, cond, ◌||◌, List, [], ◌∷◌, ltb, length, take}
+use Rattle.std.specs.Prelude.{ℕ, Bool, cond, ◌||◌, Option, Some, None, Result, Ok, Err, List, [], ◌∷◌, ltb, length, take}
 use Rattle.std.proofs.lemmas.List.Edits.{sets}
 use Rattle.words.specs.Bytes.{words_of}
 use Rattle.words.specs.Cutting.{messages_of, part_of}
 use Rattle.words.specs.Control.{descriptor_words, reset_words, list_of}
+use Rattle.words.specs.Refusal.{numbers_of}
+use Rattle.words.specs.declared.refusal.Refusal.{Refusal}
+use Rattle.words.specs.declared.refusal.Refusal.TheVariants.{NotReady}
 use Rattle.dist_controller.specs.Asked.{last_of, asked_of}
 use Rattle.dist_controller.specs.Submit.{short_of}
 use Rattle.dist_controller.specs.declared.state.Phase.{Phase}
 use Rattle.dist_controller.specs.declared.state.Phase.TheVariants.{Idle, Sending, Waiting, Reading, Resetting, ResetWaiting, ResetReading, CutSending, CutReading, CutResetting}
 use Rattle.dist_controller.specs.declared.state.Controller.{Controller}
-use Rattle.dist_controller.specs.declared.asked.Asked.{Asked}
-use Rattle.dist_controller.specs.declared.message.Ask.{Ask}
-use Rattle.dist_controller.specs.declared.message.Ask.TheVariants.{Message, Refused}
+use Rattle.dist_controller.specs.declared.asked.Message.{Message}
+use Rattle.dist_controller.specs.declared.asked.Message.TheVariants.{Receive, Transmit}
 
 -- the words of message i of the transfer: its part of the block in the store, then the descriptor; a read sends none
 unfoldable pub transfer_words_at : Controller → List ℕ → ℕ → List ℕ
@@ -52,16 +54,19 @@ words_after c store out = cond (ltb (length out) 32) out (sets out 0 (words_aske
 abbrev pub unreadable : Controller → ℕ → ℕ → Bool
 unreadable c store out = short_of c.link store || ltb out 32
 
-unfoldable pub message_of : Controller → ℕ → ℕ → Ask
-message_of c store out = cond (unreadable c store out) (Refused 1) (Message (asked_of c))
+unfoldable pub message_of : Controller → ℕ → ℕ → Result (Option Message) Refusal
+message_of c store out = cond (unreadable c store out) (Err NotReady) (Ok (asked_of c))
 
 -- the buffer: the message's words at its start; a refusal leaves it as it was
 unfoldable pub buffer_after : Controller → List ℕ → List ℕ → List ℕ
 buffer_after c store out = cond (unreadable c (length store) (length out)) out (sets out 0 (words_asked c store))
 
--- the paper's number, 0 for accepted; then 1 where the terminal receives and 2 where it transmits, subaddress and words
-abbrev pub ask_numbers : Ask → List ℕ
-ask_numbers (Refused n) = n ∷ []
-ask_numbers (Message Asked.Nothing) = 0 ∷ []
-ask_numbers (Message (Asked.Receive subaddress words)) = 0 ∷ 1 ∷ subaddress ∷ words ∷ []
-ask_numbers (Message (Asked.Transmit subaddress words)) = 0 ∷ 2 ∷ subaddress ∷ words ∷ []
+-- 1 where the terminal receives and 2 where it transmits, subaddress and words
+abbrev pub message_values : Option Message → List ℕ
+message_values None = []
+message_values (Some (Receive subaddress words)) = 1 ∷ subaddress ∷ words ∷ []
+message_values (Some (Transmit subaddress words)) = 2 ∷ subaddress ∷ words ∷ []
+
+-- the paper's number, 0 for accepted; then the values
+abbrev pub ask_numbers : Result (Option Message) Refusal → List ℕ
+ask_numbers answer = numbers_of message_values answer

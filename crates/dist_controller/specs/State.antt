@@ -1,6 +1,6 @@
 -- What the controller keeps of one link (document 01, "Distribution"), and the changes that its events are made of.
 -- Assumes nothing.
-use Rattle.std.specs.Prelude.{ℕ, ◌+◌, Bool, true, false, cond, eqb}
+use Rattle.std.specs.Prelude.{ℕ, ◌+◌, Bool, true, false, cond, Some, None, eqb}
 use Rattle.words.specs.Count.{distribution_count}
 use Rattle.words.specs.declared.link.Link.{Link}
 use Rattle.words.specs.declared.control.Quality.TheVariants.{BestEffort}
@@ -27,7 +27,7 @@ is_open CutReading = false
 is_open CutResetting = false
 
 abbrev pub fresh_transfer : Transfer
-fresh_transfer = record { size = 0; quality = BestEffort; gone = 0; fate = Fate.None }
+fresh_transfer = record { size = 0; quality = BestEffort; gone = 0; fate = None }
 
 abbrev pub fresh_standing : Standing
 fresh_standing = record { accepted = false; count = distribution_count 0; spent = 0 }
@@ -41,7 +41,7 @@ fresh_of link tick =
       standing = fresh_standing;
       phase = Idle;
       transfer = fresh_transfer;
-      found = Finding.None;
+      found = None;
     }
 
 abbrev pub in_phase : Phase → Controller → Controller
@@ -62,7 +62,7 @@ with_standing standing phase c =
 
 abbrev pub with_finding : Finding → Controller → Controller
 with_finding found c =
-    record { link = c.link; clock = c.clock; standing = c.standing; phase = c.phase; transfer = c.transfer; found = found }
+    record { link = c.link; clock = c.clock; standing = c.standing; phase = c.phase; transfer = c.transfer; found = Some found }
 
 -- a message count is a 16-bit number, and stops at its last
 unfoldable pub counted_of : ℕ → ℕ
@@ -79,6 +79,6 @@ one_more phase c =
 abbrev pub ended_of : Fate → Phase → Controller → Controller
 ended_of fate phase c =
     with_transfer
-    (record { size = c.transfer.size; quality = c.transfer.quality; gone = c.transfer.gone; fate = fate })
+    (record { size = c.transfer.size; quality = c.transfer.quality; gone = c.transfer.gone; fate = Some fate })
     phase
     c

@@ -1,17 +1,20 @@
 -- The controller is told the outcome of the message that it asked for (document 01, "Distribution").
 -- Assumes nothing.
-use Rattle.std.specs.Prelude.{ℕ, Bool, true, false, cond, not, ◌||◌, List, eqb, ltb, leb, length}
+use Rattle.std.specs.Prelude.{ℕ, Bool, true, false, cond, not, ◌||◌, Option, Some, None, Result, Ok, Err, List, eqb, ltb, leb, length}
 use Rattle.words.specs.Count.{distribution_count, same_distribution}
 use Rattle.words.specs.Tick.{age_of}
 use Rattle.words.specs.Link.{configured_of}
 use Rattle.words.specs.Cutting.{messages_of}
-use Rattle.words.specs.Reading.{read_distribution_confirmation_of}
-use Rattle.words.specs.declared.answer.Answer.{Answer}
+use Rattle.words.specs.Reading.{read_confirmation_of}
+use Rattle.words.specs.Refusal.{accept, refuse}
+use Rattle.words.specs.declared.refusal.Refusal.{Refusal}
+use Rattle.words.specs.declared.refusal.Refusal.TheVariants.{NotReady, NothingAsked}
+use Rattle.words.specs.declared.refusal.Stepped.{Stepped}
 use Rattle.words.specs.declared.count.DistributionCount.{DistributionCount}
 use Rattle.words.specs.declared.control.Quality.{Quality}
 use Rattle.words.specs.declared.control.Quality.TheVariants.{BestEffort, Verified}
-use Rattle.words.specs.declared.control.DistributionConfirmation.{DistributionConfirmation}
-use Rattle.words.specs.declared.control.DistributionConfirmation.TheVariants as DC
+use Rattle.words.specs.declared.control.Control.{Control}
+use Rattle.words.specs.declared.control.Control.TheVariants.{Reset, Block}
 use Rattle.words.specs.declared.status.Outcome.{Outcome}
 use Rattle.words.specs.declared.status.Outcome.TheVariants.{Done, NoReply}
 use Rattle.dist_controller.specs.State.{in_phase, with_clock, with_standing, with_finding, one_more, ended_of}
@@ -20,13 +23,6 @@ use Rattle.dist_controller.specs.declared.state.Phase.TheVariants.{Idle, Sending
 use Rattle.dist_controller.specs.declared.state.Fate.TheVariants as Fate
 use Rattle.dist_controller.specs.declared.state.Finding.{Finding}
 use Rattle.dist_controller.specs.declared.state.Controller.{Controller}
-use Rattle.dist_controller.specs.declared.told.Stepped.{Stepped}
-
-abbrev pub accept : Controller → Stepped
-accept c = record { controller = c; answer = Answer.Accepted }
-
-abbrev pub refuse : ℕ → Controller → Stepped
-refuse n c = record { controller = c; answer = Answer.Refused n }
 
 abbrev pub is_done : Outcome → Bool
 is_done Done = true
@@ -63,20 +59,22 @@ overdue_of c = leb c.link.window (age_now c)
 unfoldable pub lost_of : Outcome → List ℕ → Bool
 lost_of outcome words = not (is_done outcome) || not (eqb (length words) 2)
 
--- present count without error: confirmed; with error: refused; a wrong one is otherwise
-unfoldable pub confirmation_found : DistributionConfirmation → Bool → DistributionCount → Finding
-confirmation_found DC.Reset waits count = Finding.Reset
-confirmation_found (DC.Refused n) waits count = Finding.Other
-confirmation_found (DC.Block size error shown) waits count =
-    cond (not waits) Finding.Other
-    (cond (not (same_distribution shown count)) Finding.Other
-    (cond error Finding.Refused Finding.Confirmed))
+-- the count that a transfer waits for, without error: confirmed; with error: refused; a wrong one is otherwise
+abbrev pub shown_to : Option DistributionCount → Bool → DistributionCount → Finding
+shown_to None error shown = Finding.Other
+shown_to (Some count) error shown =
+    cond (not (same_distribution shown count)) Finding.Other (cond error Finding.Refused Finding.Confirmed)
+
+unfoldable pub confirmation_found : Result (Control Bool DistributionCount) Refusal → Option DistributionCount → Finding
+confirmation_found (Ok Reset) waited = Finding.Reset
+confirmation_found (Err r) waited = Finding.Other
+confirmation_found (Ok (Block size error shown)) waited = shown_to waited error shown
 
 -- what the read of a waiting transfer, or of none, found
-unfoldable pub finding_of : Controller → Bool → Outcome → List ℕ → Finding
-finding_of c waits outcome words =
+unfoldable pub finding_of : Controller → Option DistributionCount → Outcome → List ℕ → Finding
+finding_of c waited outcome words =
     cond (lost_of outcome words) Finding.Lost
-    (confirmation_found (read_distribution_confirmation_of words c.link) waits c.standing.count)
+    (confirmation_found (read_confirmation_of distribution_count words c.link) waited)
 
 abbrev pub confirmed_of : Controller → Controller
 confirmed_of c =
@@ -87,7 +85,6 @@ unfoldable pub unanswered_of : Controller → Controller
 unanswered_of c = cond (overdue_of c) (ended_of Fate.Unconfirmed Idle c) (in_phase Waiting c)
 
 unfoldable pub read_of : Controller → Finding → Controller
-read_of c Finding.None = unanswered_of c
 read_of c Finding.Reset = unanswered_of c
 read_of c Finding.Confirmed = confirmed_of c
 read_of c Finding.Refused = ended_of Fate.Refused Idle c
@@ -95,7 +92,7 @@ read_of c Finding.Other = unanswered_of c
 read_of c Finding.Lost = unanswered_of c
 
 unfoldable pub told_reading : Controller → Outcome → List ℕ → Controller
-told_reading c outcome words = read_of (with_finding (finding_of c true outcome words) c) (finding_of c true outcome words)
+told_reading c outcome words = read_of (with_finding (finding_of c (Some c.standing.count) outcome words) c) (finding_of c (Some c.standing.count) outcome words)
 
 -- ---- the Reset
 
@@ -112,7 +109,6 @@ unfoldable pub not_shown : Controller → Controller
 not_shown c = cond (overdue_of c) (in_phase Idle c) (in_phase ResetWaiting c)
 
 unfoldable pub reset_read_of : Controller → Finding → Controller
-reset_read_of c Finding.None = not_shown c
 reset_read_of c Finding.Reset = accepted_of c
 reset_read_of c Finding.Confirmed = not_shown c
 reset_read_of c Finding.Refused = not_shown c
@@ -120,26 +116,26 @@ reset_read_of c Finding.Other = not_shown c
 reset_read_of c Finding.Lost = not_shown c
 
 unfoldable pub told_reset_reading : Controller → Outcome → List ℕ → Controller
-told_reset_reading c outcome words = reset_read_of (with_finding (finding_of c false outcome words) c) (finding_of c false outcome words)
+told_reset_reading c outcome words = reset_read_of (with_finding (finding_of c None outcome words) c) (finding_of c None outcome words)
 
 -- a message that was out when a Reset was asked for is told first, without effect; then the Reset descriptor is asked for
 unfoldable pub told_cut_reading : Controller → Outcome → List ℕ → Controller
-told_cut_reading c outcome words = in_phase Resetting (with_finding (finding_of c false outcome words) c)
+told_cut_reading c outcome words = in_phase Resetting (with_finding (finding_of c None outcome words) c)
 
 -- ---- 18: an outcome told when no message is asked for
 
-abbrev pub told_in : Phase → Controller → Outcome → List ℕ → Stepped
-told_in Idle c outcome words = refuse 18 c
+abbrev pub told_in : Phase → Controller → Outcome → List ℕ → Stepped Controller (Unit {0})
+told_in Idle c outcome words = refuse NothingAsked c
 told_in Sending c outcome words = accept (sent_of c outcome)
-told_in Waiting c outcome words = refuse 18 c
+told_in Waiting c outcome words = refuse NothingAsked c
 told_in Reading c outcome words = accept (told_reading c outcome words)
 told_in Resetting c outcome words = accept (reset_sent_of c outcome)
-told_in ResetWaiting c outcome words = refuse 18 c
+told_in ResetWaiting c outcome words = refuse NothingAsked c
 told_in ResetReading c outcome words = accept (told_reset_reading c outcome words)
 told_in CutSending c outcome words = accept (in_phase Resetting c)
 told_in CutReading c outcome words = accept (told_cut_reading c outcome words)
 told_in CutResetting c outcome words = accept (in_phase Resetting c)
 
 -- 1: link not configured
-unfoldable pub told_of : Controller → Outcome → List ℕ → Stepped
-told_of c outcome words = cond (not (configured_of c.link)) (refuse 1 c) (told_in c.phase c outcome words)
+unfoldable pub told_of : Controller → Outcome → List ℕ → Stepped Controller (Unit {0})
+told_of c outcome words = cond (not (configured_of c.link)) (refuse NotReady c) (told_in c.phase c outcome words)

@@ -7,34 +7,38 @@ use words::link::Link;
 
 // R: the terminal receives; T: it transmits. With the subaddress and the number of words.
 #[derive(Clone, Copy)]
-pub enum Asked {
-    Nothing,
+pub enum Message {
     Receive { subaddress: u8, words: u16 },
     Transmit { subaddress: u8, words: u16 },
 }
 
+// The two words of a descriptor, and a read of those of a confirmation.
+const TO_DESCRIPTOR: Message = Message::Receive {
+    subaddress: 27,
+    words: 2,
+};
+
+const TO_CONFIRMATION: Message = Message::Transmit {
+    subaddress: 27,
+    words: 2,
+};
+
 // Message i of a transfer, from 0: its data messages, the descriptor, then reads of 27T.
 #[tactic(auto, unfolding(crate::specs::Asked::transfer_message))]
-pub fn transfer_message(link: Link, size: u16, i: u16) -> Asked
+pub fn transfer_message(link: Link, size: u16, i: u16) -> Message
     ensures { result ≡ transfer_message link size i }
 {
     let n = words::cutting::messages(size);
     if i < n {
-        return Asked::Receive {
+        return Message::Receive {
             subaddress: words::cutting::message_subaddress(link, i),
             words: words::cutting::message_words(size, i),
         };
     }
     if i == n {
-        return Asked::Receive {
-            subaddress: 27,
-            words: 2,
-        };
+        return TO_DESCRIPTOR;
     }
-    Asked::Transmit {
-        subaddress: 27,
-        words: 2,
-    }
+    TO_CONFIRMATION
 }
 
 // The number, from 0, of the last of `gone` messages.
@@ -42,42 +46,21 @@ pub fn transfer_message(link: Link, size: u16, i: u16) -> Asked
 pub fn last(gone: u16) -> u16
     ensures { result ≡ last_of gone }
 {
-    if gone == 0 {
-        return 0;
-    }
-    gone - 1
+    gone.saturating_sub(1)
 }
 
+// The message asked for, if any.
 #[tactic(auto, unfolding(crate::specs::Asked::asked_of))]
-pub fn asked_for(c: Controller) -> Asked
+pub fn asked_for(c: Controller) -> Option<Message>
     ensures { result ≡ asked_of c }
 {
-    let phase = c.phase;
-    match phase {
-        Phase::Idle => Asked::Nothing,
-        Phase::Waiting => Asked::Nothing,
-        Phase::ResetWaiting => Asked::Nothing,
-        Phase::Sending => transfer_message(c.link, c.transfer.size, last(c.transfer.gone)),
-        Phase::CutSending => transfer_message(c.link, c.transfer.size, last(c.transfer.gone)),
-        Phase::Resetting => Asked::Receive {
-            subaddress: 27,
-            words: 2,
-        },
-        Phase::CutResetting => Asked::Receive {
-            subaddress: 27,
-            words: 2,
-        },
-        Phase::Reading => Asked::Transmit {
-            subaddress: 27,
-            words: 2,
-        },
-        Phase::ResetReading => Asked::Transmit {
-            subaddress: 27,
-            words: 2,
-        },
-        Phase::CutReading => Asked::Transmit {
-            subaddress: 27,
-            words: 2,
-        },
+    match c.phase {
+        Phase::Idle | Phase::Waiting | Phase::ResetWaiting => None,
+        Phase::Sending | Phase::CutSending => {
+            let i = last(c.transfer.gone);
+            Some(transfer_message(c.link, c.transfer.size, i))
+        }
+        Phase::Resetting | Phase::CutResetting => Some(TO_DESCRIPTOR),
+        Phase::Reading | Phase::ResetReading | Phase::CutReading => Some(TO_CONFIRMATION),
     }
 }

@@ -2,11 +2,9 @@
 ghost use Rattle.std.specs.Prelude.{◌≡◌};
 ghost use Rattle.dist_controller.specs.Events.{ticked_of, due_of, ask_again, frame_of, cut_of, voided_of, cut_transfer, reset_of, restart_of};
 
-use crate::state::{
-    Clock, Controller, Fate, Phase, Standing, ended, fresh, in_phase, is_open, one_more,
-    with_clock, with_standing,
-};
-use crate::told::{Stepped, accept, age_now, refuse};
+use crate::state::{Clock, Controller, Fate, Phase, Standing, ended, fresh, is_open, one_more};
+use crate::told::age_now;
+use words::refusal::{Refusal, Stepped, accept, refuse};
 
 // The tick moves.
 fn ticked(c: Controller) -> Controller
@@ -14,10 +12,9 @@ fn ticked(c: Controller) -> Controller
 {
     let clock = Clock {
         tick: words::tick::next_tick(c.clock.tick),
-        since: c.clock.since,
+        ..c.clock
     };
-    let phase = c.phase;
-    with_clock(c, clock, phase)
+    Controller { clock, ..c }
 }
 
 // Whether 27T may be read: from age 2.
@@ -36,28 +33,30 @@ fn ask_again(c: Controller) -> Controller
     if !due(c) {
         return c;
     }
-    let phase = c.phase;
-    match phase {
+    match c.phase {
         Phase::Waiting => one_more(c, Phase::Reading),
-        Phase::ResetWaiting => in_phase(c, Phase::ResetReading),
-        Phase::Idle => c,
-        Phase::Sending => c,
-        Phase::Reading => c,
-        Phase::Resetting => c,
-        Phase::ResetReading => c,
-        Phase::CutSending => c,
-        Phase::CutReading => c,
-        Phase::CutResetting => c,
+        Phase::ResetWaiting => Controller {
+            phase: Phase::ResetReading,
+            ..c
+        },
+        Phase::Idle
+        | Phase::Sending
+        | Phase::Reading
+        | Phase::Resetting
+        | Phase::ResetReading
+        | Phase::CutSending
+        | Phase::CutReading
+        | Phase::CutResetting => c,
     }
 }
 
 // A frame begins.
 #[tactic(auto, unfolding(crate::specs::Events::frame_of))]
-pub fn frame(c: Controller) -> Stepped
+pub fn frame(c: Controller) -> Stepped<Controller, ()>
     ensures { result ≡ frame_of c }
 {
     if !words::link::is_configured(c.link) {
-        return refuse(1, c);
+        return refuse(Refusal::NotReady, c);
     }
     accept(ask_again(ticked(c)))
 }
@@ -67,16 +66,10 @@ fn cut(phase: Phase) -> Phase
     ensures { result ≡ cut_of phase }
 {
     match phase {
-        Phase::Idle => Phase::Resetting,
-        Phase::Waiting => Phase::Resetting,
-        Phase::ResetWaiting => Phase::Resetting,
-        Phase::Sending => Phase::CutSending,
-        Phase::CutSending => Phase::CutSending,
-        Phase::Reading => Phase::CutReading,
-        Phase::ResetReading => Phase::CutReading,
-        Phase::CutReading => Phase::CutReading,
-        Phase::Resetting => Phase::CutResetting,
-        Phase::CutResetting => Phase::CutResetting,
+        Phase::Idle | Phase::Waiting | Phase::ResetWaiting => Phase::Resetting,
+        Phase::Sending | Phase::CutSending => Phase::CutSending,
+        Phase::Reading | Phase::ResetReading | Phase::CutReading => Phase::CutReading,
+        Phase::Resetting | Phase::CutResetting => Phase::CutResetting,
     }
 }
 
@@ -84,13 +77,15 @@ fn cut(phase: Phase) -> Phase
 fn voided(c: Controller, phase: Phase) -> Controller
     ensures { result ≡ voided_of phase c }
 {
-    let count = c.standing.count;
     let standing = Standing {
         accepted: false,
-        count,
-        spent: c.standing.spent,
+        ..c.standing
     };
-    with_standing(c, standing, phase)
+    Controller {
+        standing,
+        phase,
+        ..c
+    }
 }
 
 // An open transfer is abandoned at once.
@@ -98,33 +93,31 @@ fn voided(c: Controller, phase: Phase) -> Controller
 fn cut_transfer(c: Controller, phase: Phase) -> Controller
     ensures { result ≡ cut_transfer phase c }
 {
-    let before = c.phase;
-    if is_open(before) {
+    if is_open(c.phase) {
         return ended(c, Fate::Abandoned, phase);
     }
-    in_phase(c, phase)
+    Controller { phase, ..c }
 }
 
 // A Reset is asked for.
 #[tactic(auto, unfolding(crate::specs::Events::reset_of))]
-pub fn reset(c: Controller) -> Stepped
+pub fn reset(c: Controller) -> Stepped<Controller, ()>
     ensures { result ≡ reset_of c }
 {
     if !words::link::is_configured(c.link) {
-        return refuse(1, c);
+        return refuse(Refusal::NotReady, c);
     }
-    let before = c.phase;
-    let phase = cut(before);
+    let phase = cut(c.phase);
     accept(voided(cut_transfer(c, phase), phase))
 }
 
 // The controller restarts: all but configuration and tick is fresh.
 #[tactic(auto, unfolding(crate::specs::Events::restart_of))]
-pub fn restart(c: Controller) -> Stepped
+pub fn restart(c: Controller) -> Stepped<Controller, ()>
     ensures { result ≡ restart_of c }
 {
     if !words::link::is_configured(c.link) {
-        return refuse(1, c);
+        return refuse(Refusal::NotReady, c);
     }
     accept(fresh(c.link, c.clock.tick))
 }

@@ -5,8 +5,8 @@ ghost use Rattle.dist_controller.specs.State.{fresh_of};
 ghost use Rattle.dist_controller.specs.Report.{configuring_of, acceptance_of, report_of};
 
 use crate::state::{Controller, Fate, Finding, Phase, fresh};
-use crate::told::{Stepped, accept, refuse};
-use words::link::Configuring;
+use words::link::Settings;
+use words::refusal::{Refusal, Stepped, accept, refuse};
 
 // Where the last Reset stands.
 #[derive(Clone, Copy)]
@@ -19,16 +19,10 @@ pub enum Acceptance {
 // The fate of the transfer that was started last, the messages it asked for, what the last read found, and where the Reset stands.
 #[derive(Clone, Copy)]
 pub struct Report {
-    pub fate: Fate,
+    pub fate: Option<Fate>,
     pub messages: u16,
-    pub found: Finding,
+    pub found: Option<Finding>,
     pub acceptance: Acceptance,
-}
-
-#[derive(Clone, Copy)]
-pub enum Reported {
-    Report(Report),
-    Refused(u8),
 }
 
 // A controller whose link is not set up.
@@ -40,23 +34,14 @@ pub fn unconfigured() -> Controller
 
 // A new run, or refusal 20, which leaves an earlier run as it was: a number outside its range, or the block store too short.
 #[tactic(auto, unfolding(crate::specs::Report::configuring_of))]
-pub fn configure(
-    c: Controller,
-    address: u32,
-    mode: u32,
-    subaddress: u32,
-    largest: u32,
-    window: u32,
-    store: usize,
-) -> Stepped
-    ensures { result ≡ configuring_of c address mode subaddress largest window store }
+pub fn configure(c: Controller, settings: Settings, store: usize) -> Stepped<Controller, ()>
+    ensures { result ≡ configuring_of c settings store }
 {
-    let configuring = words::link::configure(address, mode, subaddress, largest, window);
-    match configuring {
-        Configuring::Refused(n) => refuse(n, c),
-        Configuring::Configured(link) => {
+    match words::link::configure(settings) {
+        Err(refusal) => refuse(refusal, c),
+        Ok(link) => {
             if store < words::link::block_store(link) {
-                return refuse(20, c);
+                return refuse(Refusal::BadConfiguration, c);
             }
             accept(fresh(link, 0))
         }
@@ -71,35 +56,27 @@ fn acceptance_of(phase: Phase, accepted: bool) -> Acceptance
         return Acceptance::Accepted;
     }
     match phase {
-        Phase::Idle => Acceptance::NotAccepted,
-        Phase::Sending => Acceptance::NotAccepted,
-        Phase::Waiting => Acceptance::NotAccepted,
-        Phase::Reading => Acceptance::NotAccepted,
-        Phase::Resetting => Acceptance::Pending,
-        Phase::ResetWaiting => Acceptance::Pending,
-        Phase::ResetReading => Acceptance::Pending,
-        Phase::CutSending => Acceptance::Pending,
-        Phase::CutReading => Acceptance::Pending,
-        Phase::CutResetting => Acceptance::Pending,
+        Phase::Idle | Phase::Sending | Phase::Waiting | Phase::Reading => Acceptance::NotAccepted,
+        Phase::Resetting
+        | Phase::ResetWaiting
+        | Phase::ResetReading
+        | Phase::CutSending
+        | Phase::CutReading
+        | Phase::CutResetting => Acceptance::Pending,
     }
 }
 
 #[tactic(auto, unfolding(crate::specs::Report::report_of))]
-pub fn report_of(c: Controller) -> Reported
+pub fn report_of(c: Controller) -> Result<Report, Refusal>
     ensures { result ≡ report_of c }
 {
     if !words::link::is_configured(c.link) {
-        return Reported::Refused(1);
+        return Err(Refusal::NotReady);
     }
-    let transfer = c.transfer;
-    let fate = transfer.fate;
-    let found = c.found;
-    let phase = c.phase;
-    let acceptance = acceptance_of(phase, c.standing.accepted);
-    Reported::Report(Report {
-        fate,
-        messages: transfer.gone,
-        found,
-        acceptance,
+    Ok(Report {
+        fate: c.transfer.fate,
+        messages: c.transfer.gone,
+        found: c.found,
+        acceptance: acceptance_of(c.phase, c.standing.accepted),
     })
 }

@@ -1,23 +1,15 @@
 // The controller is told the outcome of the message that it asked for (document 01, "Distribution").
 ghost use Rattle.std.specs.Prelude.{◌≡◌};
 ghost use Rattle.dist_controller.specs.Told.{is_done, stops_of, age_now, overdue_of, told_now, sent_of, lost_of, confirmation_found, finding_of};
-ghost use Rattle.dist_controller.specs.Told.{confirmed_of, unanswered_of, read_of, accepted_of, not_shown, reset_read_of, reset_sent_of, accept, refuse, told_reading, told_reset_reading, told_cut_reading, told_of};
+ghost use Rattle.dist_controller.specs.Told.{confirmed_of, unanswered_of, read_of, accepted_of, not_shown, reset_read_of, reset_sent_of, told_reading, told_reset_reading, told_cut_reading, told_of};
 
 use crate::state::{
-    Clock, Controller, Fate, Finding, Phase, Standing, ended, in_phase, one_more, with_clock,
-    with_finding, with_standing,
+    Clock, Controller, Fate, Finding, Phase, Standing, ended, one_more, with_finding,
 };
-use words::answer::Answer;
-use words::control::{DistributionConfirmation, Quality};
+use words::control::{Confirmation, Control, Quality};
 use words::count::DistributionCount;
+use words::refusal::{Refusal, Stepped, accept, refuse};
 use words::status::Outcome;
-
-// A state, and what the call answered.
-#[derive(Clone, Copy)]
-pub struct Stepped {
-    pub controller: Controller,
-    pub answer: Answer,
-}
 
 fn is_done(outcome: Outcome) -> bool
     ensures { result ≡ is_done outcome }
@@ -51,7 +43,7 @@ pub fn age_now(c: Controller) -> u16
 fn overdue(c: Controller) -> bool
     ensures { result ≡ overdue_of c }
 {
-    (c.link.window as u16) <= age_now(c)
+    u16::from(c.link.window) <= age_now(c)
 }
 
 // Age counts from now.
@@ -59,10 +51,10 @@ fn told_now(c: Controller, phase: Phase) -> Controller
     ensures { result ≡ told_now phase c }
 {
     let clock = Clock {
-        tick: c.clock.tick,
         since: c.clock.tick,
+        ..c.clock
     };
-    with_clock(c, clock, phase)
+    Controller { clock, phase, ..c }
 }
 
 // A data message or the descriptor was told.
@@ -73,9 +65,7 @@ fn sent(c: Controller, outcome: Outcome) -> Controller
     if words::cutting::messages(c.transfer.size) < c.transfer.gone {
         return told_now(c, Phase::Waiting);
     }
-    let transfer = c.transfer;
-    let quality = transfer.quality;
-    if stops(quality, outcome) {
+    if stops(c.transfer.quality, outcome) {
         return ended(c, Fate::Abandoned, Phase::Idle);
     }
     one_more(c, Phase::Sending)
@@ -86,32 +76,30 @@ fn sent(c: Controller, outcome: Outcome) -> Controller
 fn lost(outcome: Outcome, words: &[u16]) -> bool
     ensures { result ≡ lost_of outcome words.now }
 {
-    if !is_done(outcome) {
-        return true;
-    }
-    words.len() != 2
+    !is_done(outcome) || words.len() != 2
 }
 
-// What the words of 27T mean to the transfer with this count; to none, where none is open.
+// What the words of 27T mean to the transfer that waits for a count, if one does.
 #[tactic(auto, unfolding(crate::specs::Told::confirmation_found))]
 fn confirmation_found(
-    confirmation: DistributionConfirmation,
-    waits: bool,
-    count: DistributionCount,
+    confirmation: Result<Confirmation<DistributionCount>, Refusal>,
+    waited: Option<DistributionCount>,
 ) -> Finding
-    ensures { result ≡ confirmation_found confirmation waits count }
+    ensures { result ≡ confirmation_found confirmation waited }
 {
     match confirmation {
-        DistributionConfirmation::Reset => Finding::Reset,
-        DistributionConfirmation::Refused(_) => Finding::Other,
-        DistributionConfirmation::Block {
-            size: _,
-            error,
-            count: shown,
-        } => {
-            if !waits {
+        Err(_) => Finding::Other,
+        Ok(Control::Reset) => Finding::Reset,
+        Ok(
+            Control::Block {
+                size: _,
+                mark: error,
+                count: shown,
+            },
+        ) => {
+            let Some(count) = waited else {
                 return Finding::Other;
-            }
+            };
             if !shown.same(count) {
                 return Finding::Other;
             }
@@ -124,31 +112,30 @@ fn confirmation_found(
 }
 
 #[tactic(auto, unfolding(crate::specs::Told::finding_of))]
-fn finding(c: Controller, waits: bool, outcome: Outcome, words: &[u16]) -> Finding
-    ensures { result ≡ finding_of c waits outcome words.now }
+fn finding(
+    c: Controller,
+    waited: Option<DistributionCount>,
+    outcome: Outcome,
+    words: &[u16],
+) -> Finding
+    ensures { result ≡ finding_of c waited outcome words.now }
 {
     if lost(outcome, words) {
         return Finding::Lost;
     }
-    let confirmation = words::reading::read_distribution_confirmation(words, c.link);
-    confirmation_found(confirmation, waits, c.standing.count)
+    let confirmation = words::reading::read_confirmation(words, c.link);
+    confirmation_found(confirmation, waited)
 }
 
 // Present count without error: no transfers are spent.
 fn confirmed(c: Controller) -> Controller
     ensures { result ≡ confirmed_of c }
 {
-    let count = c.standing.count;
     let standing = Standing {
-        accepted: c.standing.accepted,
-        count,
         spent: 0,
+        ..c.standing
     };
-    ended(
-        with_standing(c, standing, Phase::Idle),
-        Fate::Confirmed,
-        Phase::Idle,
-    )
+    ended(Controller { standing, ..c }, Fate::Confirmed, Phase::Idle)
 }
 
 // No answer yet: 27T is read again next frame, until the window is over.
@@ -159,7 +146,10 @@ fn unanswered(c: Controller) -> Controller
     if overdue(c) {
         return ended(c, Fate::Unconfirmed, Phase::Idle);
     }
-    in_phase(c, Phase::Waiting)
+    Controller {
+        phase: Phase::Waiting,
+        ..c
+    }
 }
 
 // 27T was read for the open transfer.
@@ -170,10 +160,7 @@ fn read(c: Controller, found: Finding) -> Controller
     match found {
         Finding::Confirmed => confirmed(c),
         Finding::Refused => ended(c, Fate::Refused, Phase::Idle),
-        Finding::Reset => unanswered(c),
-        Finding::Other => unanswered(c),
-        Finding::Lost => unanswered(c),
-        Finding::None => unanswered(c),
+        Finding::Reset | Finding::Other | Finding::Lost => unanswered(c),
     }
 }
 
@@ -186,7 +173,11 @@ fn accepted(c: Controller) -> Controller
         count: DistributionCount(0),
         spent: 0,
     };
-    with_standing(c, standing, Phase::Idle)
+    Controller {
+        standing,
+        phase: Phase::Idle,
+        ..c
+    }
 }
 
 // No Reset shown yet; without it at the end of the window it is not accepted.
@@ -194,10 +185,12 @@ fn accepted(c: Controller) -> Controller
 fn not_shown(c: Controller) -> Controller
     ensures { result ≡ not_shown c }
 {
-    if overdue(c) {
-        return in_phase(c, Phase::Idle);
-    }
-    in_phase(c, Phase::ResetWaiting)
+    let phase = if overdue(c) {
+        Phase::Idle
+    } else {
+        Phase::ResetWaiting
+    };
+    Controller { phase, ..c }
 }
 
 // 27T was read for the Reset.
@@ -207,11 +200,7 @@ fn reset_read(c: Controller, found: Finding) -> Controller
 {
     match found {
         Finding::Reset => accepted(c),
-        Finding::Confirmed => not_shown(c),
-        Finding::Refused => not_shown(c),
-        Finding::Other => not_shown(c),
-        Finding::Lost => not_shown(c),
-        Finding::None => not_shown(c),
+        Finding::Confirmed | Finding::Refused | Finding::Other | Finding::Lost => not_shown(c),
     }
 }
 
@@ -220,28 +209,13 @@ fn reset_read(c: Controller, found: Finding) -> Controller
 fn reset_sent(c: Controller, outcome: Outcome) -> Controller
     ensures { result ≡ reset_sent_of c outcome }
 {
-    if is_done(outcome) {
-        return told_now(c, Phase::ResetWaiting);
+    if !is_done(outcome) {
+        return Controller {
+            phase: Phase::Idle,
+            ..c
+        };
     }
-    in_phase(c, Phase::Idle)
-}
-
-pub fn accept(c: Controller) -> Stepped
-    ensures { result ≡ accept c }
-{
-    Stepped {
-        controller: c,
-        answer: Answer::Accepted,
-    }
-}
-
-pub fn refuse(n: u8, c: Controller) -> Stepped
-    ensures { result ≡ refuse n c }
-{
-    Stepped {
-        controller: c,
-        answer: Answer::Refused(n),
-    }
+    told_now(c, Phase::ResetWaiting)
 }
 
 // A read of 27T was told, for the open transfer.
@@ -249,7 +223,7 @@ pub fn refuse(n: u8, c: Controller) -> Stepped
 fn told_reading(c: Controller, outcome: Outcome, words: &[u16]) -> Controller
     ensures { result ≡ told_reading c outcome words.now }
 {
-    let found = finding(c, true, outcome, words);
+    let found = finding(c, Some(c.standing.count), outcome, words);
     read(with_finding(c, found), found)
 }
 
@@ -258,7 +232,7 @@ fn told_reading(c: Controller, outcome: Outcome, words: &[u16]) -> Controller
 fn told_reset_reading(c: Controller, outcome: Outcome, words: &[u16]) -> Controller
     ensures { result ≡ told_reset_reading c outcome words.now }
 {
-    let found = finding(c, false, outcome, words);
+    let found = finding(c, None, outcome, words);
     reset_read(with_finding(c, found), found)
 }
 
@@ -267,27 +241,29 @@ fn told_reset_reading(c: Controller, outcome: Outcome, words: &[u16]) -> Control
 fn told_cut_reading(c: Controller, outcome: Outcome, words: &[u16]) -> Controller
     ensures { result ≡ told_cut_reading c outcome words.now }
 {
-    let found = finding(c, false, outcome, words);
-    in_phase(with_finding(c, found), Phase::Resetting)
+    let found = finding(c, None, outcome, words);
+    Controller {
+        phase: Phase::Resetting,
+        ..with_finding(c, found)
+    }
 }
 
 // 18: an outcome told when no message is asked for.
 #[tactic(auto, unfolding(crate::specs::Told::told_of))]
-pub fn told(c: Controller, outcome: Outcome, words: &[u16]) -> Stepped
+pub fn told(c: Controller, outcome: Outcome, words: &[u16]) -> Stepped<Controller, ()>
     ensures { result ≡ told_of c outcome words.now }
 {
     if !words::link::is_configured(c.link) {
-        return refuse(1, c);
+        return refuse(Refusal::NotReady, c);
     }
-    let phase = c.phase;
-    match phase {
-        Phase::Idle => refuse(18, c),
-        Phase::Waiting => refuse(18, c),
-        Phase::ResetWaiting => refuse(18, c),
+    match c.phase {
+        Phase::Idle | Phase::Waiting | Phase::ResetWaiting => refuse(Refusal::NothingAsked, c),
         Phase::Sending => accept(sent(c, outcome)),
         Phase::Resetting => accept(reset_sent(c, outcome)),
-        Phase::CutSending => accept(in_phase(c, Phase::Resetting)),
-        Phase::CutResetting => accept(in_phase(c, Phase::Resetting)),
+        Phase::CutSending | Phase::CutResetting => accept(Controller {
+            phase: Phase::Resetting,
+            ..c
+        }),
         Phase::Reading => accept(told_reading(c, outcome, words)),
         Phase::ResetReading => accept(told_reset_reading(c, outcome, words)),
         Phase::CutReading => accept(told_cut_reading(c, outcome, words)),

@@ -1,27 +1,26 @@
 -- The bus: the message asked for arrives, at most once, and its outcome is told (document 01, "The two machines").
 -- Assumes nothing.
-use Rattle.std.specs.Prelude.{ℕ, Bool, true, false, cond, not, ◌||◌, List, [], length}
+use Rattle.std.specs.Prelude.{ℕ, Bool, true, false, cond, not, ◌||◌, Option, Some, None, List, [], length}
 use Rattle.words.specs.Link.{configured_of}
 use Rattle.words.specs.Control.{list_of}
-use Rattle.words.specs.declared.answer.Answer.{Answer}
-use Rattle.words.specs.declared.answer.Answer.TheVariants.{Accepted, Refused}
+use Rattle.words.specs.Refusal.{accept, refuse}
+use Rattle.words.specs.declared.refusal.Refusal.TheVariants.{NotReady, NothingAsked}
+use Rattle.words.specs.declared.refusal.Stepped.{Stepped}
 use Rattle.words.specs.declared.status.Outcome.{Outcome}
 use Rattle.words.specs.declared.status.Outcome.TheVariants.{Done, NoReply}
 use Rattle.dist_controller.specs.Submit.{short_of}
 use Rattle.dist_controller.specs.Asked.{asked_of}
 use Rattle.dist_controller.specs.Message.{words_asked}
 use Rattle.dist_controller.specs.Told.{told_of}
-use Rattle.dist_controller.specs.declared.asked.Asked.{Asked}
-use Rattle.dist_controller.specs.declared.asked.Asked.TheVariants.{Nothing, Receive, Transmit}
-use Rattle.dist_controller.specs.declared.told.Stepped as ControllerStepped
+use Rattle.dist_controller.specs.declared.asked.Message.{Message}
+use Rattle.dist_controller.specs.declared.asked.Message.TheVariants.{Receive, Transmit}
 use Rattle.dist_terminal.specs.Descriptor.{short}
 use Rattle.dist_terminal.specs.Calls as Terminal
-use Rattle.dist_pair.specs.State.{accept, refuse, with_controller, with_terminal}
-use Rattle.dist_pair.specs.Events.{terminal_stepped}
+use Rattle.dist_pair.specs.State.{with_terminal}
+use Rattle.dist_pair.specs.Events.{moved_of, terminal_stepped}
 use Rattle.dist_pair.specs.declared.state.Flight.{Flight}
 use Rattle.dist_pair.specs.declared.state.Flight.TheVariants.{NotArrived, Arrived, Caught}
 use Rattle.dist_pair.specs.declared.state.Pair.{Pair}
-use Rattle.dist_pair.specs.declared.state.Stepped.{Stepped}
 
 -- 1: not configured, or a store lent too short
 unfoldable pub lent_short : Pair → ℕ → ℕ → ℕ → Bool
@@ -29,7 +28,7 @@ lent_short p store places hand = short_of p.controller.link store || short p.ter
 
 -- ---- a message arrives: the terminal acts at once; of a read the words of 27T are caught there
 
-unfoldable pub receive_of : Pair → ℕ → List ℕ → ℕ → ℕ → Stepped
+unfoldable pub receive_of : Pair → ℕ → List ℕ → ℕ → ℕ → Stepped Pair (Unit {0})
 receive_of p subaddress store places hand =
     terminal_stepped (Terminal.receive_of p.terminal subaddress (words_asked p.controller store) places hand) Arrived p
 
@@ -41,7 +40,7 @@ unfoldable pub hand_received : Pair → ℕ → List ℕ → List ℕ → List �
 hand_received p subaddress store places hand =
     Terminal.hand_received p.terminal subaddress (words_asked p.controller store) places hand
 
-abbrev pub caught_of : Pair → Stepped
+abbrev pub caught_of : Pair → Stepped Pair (Unit {0})
 caught_of p = accept (with_terminal p.terminal (Caught p.terminal.shown) p)
 
 abbrev pub has_arrived : Flight → Bool
@@ -49,22 +48,22 @@ has_arrived NotArrived = false
 has_arrived Arrived = true
 has_arrived (Caught words) = true
 
-abbrev pub arrive_in : Asked → Pair → List ℕ → ℕ → ℕ → Stepped
-arrive_in Nothing p store places hand = refuse 18 p
-arrive_in (Receive subaddress words) p store places hand = receive_of p subaddress store places hand
-arrive_in (Transmit subaddress words) p store places hand = caught_of p
+abbrev pub arrive_in : Option Message → Pair → List ℕ → ℕ → ℕ → Stepped Pair (Unit {0})
+arrive_in None p store places hand = refuse NothingAsked p
+arrive_in (Some (Receive subaddress words)) p store places hand = receive_of p subaddress store places hand
+arrive_in (Some (Transmit subaddress words)) p store places hand = caught_of p
 
 -- 18: no message is asked for, or it arrived already
-unfoldable pub arrive_of : Pair → List ℕ → ℕ → ℕ → Stepped
+unfoldable pub arrive_of : Pair → List ℕ → ℕ → ℕ → Stepped Pair (Unit {0})
 arrive_of p store places hand =
-    cond (lent_short p (length store) places hand) (refuse 1 p)
-    (cond (has_arrived p.flight) (refuse 18 p)
+    cond (lent_short p (length store) places hand) (refuse NotReady p)
+    (cond (has_arrived p.flight) (refuse NothingAsked p)
     (arrive_in (asked_of p.controller) p store places hand))
 
-abbrev pub places_in : Asked → Pair → List ℕ → List ℕ → ℕ → List ℕ
-places_in Nothing p store places hand = places
-places_in (Receive subaddress words) p store places hand = places_received p subaddress store places hand
-places_in (Transmit subaddress words) p store places hand = places
+abbrev pub places_in : Option Message → Pair → List ℕ → List ℕ → ℕ → List ℕ
+places_in None p store places hand = places
+places_in (Some (Receive subaddress words)) p store places hand = places_received p subaddress store places hand
+places_in (Some (Transmit subaddress words)) p store places hand = places
 
 unfoldable pub places_after : Pair → List ℕ → List ℕ → ℕ → List ℕ
 places_after p store places hand =
@@ -72,10 +71,10 @@ places_after p store places hand =
     (cond (has_arrived p.flight) places
     (places_in (asked_of p.controller) p store places hand))
 
-abbrev pub hand_in : Asked → Pair → List ℕ → List ℕ → List ℕ → List ℕ
-hand_in Nothing p store places hand = hand
-hand_in (Receive subaddress words) p store places hand = hand_received p subaddress store places hand
-hand_in (Transmit subaddress words) p store places hand = hand
+abbrev pub hand_in : Option Message → Pair → List ℕ → List ℕ → List ℕ → List ℕ
+hand_in None p store places hand = hand
+hand_in (Some (Receive subaddress words)) p store places hand = hand_received p subaddress store places hand
+hand_in (Some (Transmit subaddress words)) p store places hand = hand
 
 unfoldable pub hand_after : Pair → List ℕ → List ℕ → List ℕ → List ℕ
 hand_after p store places hand =
@@ -85,22 +84,18 @@ hand_after p store places hand =
 
 -- ---- an outcome is told; then the next message, if one is asked for, has not arrived
 
-abbrev pub tell_in : Answer → ControllerStepped.Stepped → Pair → Stepped
-tell_in (Refused n) s p = refuse n p
-tell_in Accepted s p = accept (with_controller s.controller NotArrived p)
-
-unfoldable pub tell_of : Pair → Outcome → List ℕ → Stepped
-tell_of p outcome words = tell_in (told_of p.controller outcome words).answer (told_of p.controller outcome words) p
+unfoldable pub tell_of : Pair → Outcome → List ℕ → Stepped Pair (Unit {0})
+tell_of p outcome words = moved_of (told_of p.controller outcome words) p
 
 -- done only of one that arrived, with what was caught
-abbrev pub done_in : Flight → Pair → Stepped
-done_in NotArrived p = refuse 18 p
+abbrev pub done_in : Flight → Pair → Stepped Pair (Unit {0})
+done_in NotArrived p = refuse NothingAsked p
 done_in Arrived p = tell_of p Done []
 done_in (Caught words) p = tell_of p Done (list_of words)
 
-unfoldable pub told_done : Pair → Stepped
-told_done p = cond (not (configured_of p.controller.link)) (refuse 1 p) (done_in p.flight p)
+unfoldable pub told_done : Pair → Stepped Pair (Unit {0})
+told_done p = cond (not (configured_of p.controller.link)) (refuse NotReady p) (done_in p.flight p)
 
 -- no reply: arrived or not
-unfoldable pub told_no_reply : Pair → Stepped
+unfoldable pub told_no_reply : Pair → Stepped Pair (Unit {0})
 told_no_reply p = tell_of p NoReply []

@@ -1,8 +1,6 @@
 -- Both ends, and how far the message asked for has come.
 -- Assumes nothing.
-use Rattle.std.specs.Prelude.{ℕ}
 use Rattle.words.specs.Link.{no_link}
-use Rattle.words.specs.declared.answer.Answer.{Answer}
 use Rattle.dist_controller.specs.State as Controller
 use Rattle.dist_controller.specs.declared.state.Controller.{Controller}
 use Rattle.dist_terminal.specs.State as Terminal
@@ -10,16 +8,6 @@ use Rattle.dist_terminal.specs.declared.state.Terminal.{Terminal}
 use Rattle.dist_pair.specs.declared.state.Flight.{Flight}
 use Rattle.dist_pair.specs.declared.state.Flight.TheVariants.{NotArrived}
 use Rattle.dist_pair.specs.declared.state.Pair.{Pair}
-use Rattle.dist_pair.specs.declared.state.Stepped.{Stepped}
-
-abbrev pub answered : Answer → Pair → Stepped
-answered answer p = record { pair = p; answer = answer }
-
-abbrev pub accept : Pair → Stepped
-accept p = answered Answer.Accepted p
-
-abbrev pub refuse : ℕ → Pair → Stepped
-refuse n p = answered (Answer.Refused n) p
 
 -- both ends fresh, nothing asked for
 abbrev pub both : Controller → Terminal → Pair

@@ -6,19 +6,20 @@ use mathlib.Core.Bool.{true, false, cond}
 use mathlib.Core.List.{List, []}
 use native.Mathlib.Omega.{arith}
 use lib.Dec.{eqb}
+use Rattle.std.proofs.Common.{Some, None, Err}
 use borrow.Author.Tests.{le-ltb, ne_eqb}
 use Rattle.words.specs.Allowed.{Allowed}
 use Rattle.words.specs.Link.{configured_of}
 use Rattle.words.specs.Cutting.{size_answer_of}
 use Rattle.words.specs.Count.{distribution_count}
 use Rattle.words.specs.Control.{list_of}
-use Rattle.words.specs.Reading.{plain_of, control_of, read_of, read_distribution_confirmation_of}
+use Rattle.words.specs.Reading.{plain_of, control_of, read_of, read_confirmation_of}
 use Rattle.words.specs.declared.link.Link.{Link}
-use Rattle.words.specs.declared.control.DistributionConfirmation.TheVariants as DC
+use Rattle.words.specs.declared.refusal.Refusal.TheVariants.{OtherLink}
 use Rattle.words.specs.declared.status.Outcome.{Outcome}
 use Rattle.words.specs.declared.status.Outcome.TheVariants.{Done, NoReply}
 use Rattle.words.proofs.Ranges.{by, link_ranges}
-use Rattle.words.proofs.Round.{distribution_confirmation_back, reset_distribution_back}
+use Rattle.words.proofs.Round.{distribution_confirmation_back, reset_confirmation_back}
 use Rattle.dist_controller.specs.Told.{lost_of, confirmation_found, finding_of}
 use Rattle.dist_controller.specs.declared.state.Finding.{Finding}
 use Rattle.dist_controller.specs.declared.state.Controller.{Controller}
@@ -80,8 +81,8 @@ allowed link size c conf i =
     }
 
 -- two zero words name subaddress 0, which no link has
-zero_read : (link : Link) → configured_of link ≡ true → read_distribution_confirmation_of (list_of nothing_yet) link ≡ DC.Refused 9
-unfolding read_distribution_confirmation_of read_of control_of plain_of
+zero_read : (link : Link) → configured_of link ≡ true → read_confirmation_of distribution_count (list_of nothing_yet) link ≡ Err OtherLink
+unfolding read_confirmation_of read_of control_of plain_of
 zero_read link conf =
     let r = link_ranges link conf in
     let ne : 0 ≡ link.subaddress → ⊥ = omega (arith, r.from) in
@@ -89,33 +90,33 @@ zero_read link conf =
 
 module _ (link : Link) (conf : configured_of link ≡ true) (size n : ℕ) where
   found_waiting_lem : (w : Word) → WordIs link size w
-      → confirmation_found (read_distribution_confirmation_of (list_of (shown_of link size w)) link) true (distribution_count n) ≡ found_waiting (words w) n
+      → confirmation_found (read_confirmation_of distribution_count (list_of (shown_of link size w)) link) (Some (distribution_count n)) ≡ found_waiting (words w) n
   unfolding confirmation_found
   found_waiting_lem w_none i = rw (zero_read link conf)
-  found_waiting_lem w_reset i = rw (reset_distribution_back link)
+  found_waiting_lem w_reset i = rw (reset_confirmation_back distribution_count link)
   found_waiting_lem (w_count c) i =
       rw (distribution_confirmation_back link size false (distribution_count c) (allowed link size c conf i)) (by (eqb c n) (λ q. rw q) (λ q. rw q))
   found_waiting_lem (w_error c) i =
       rw (distribution_confirmation_back link size true (distribution_count c) (allowed link size c conf i)) (by (eqb c n) (λ q. rw q) (λ q. rw q))
 
   found_else_lem : (w : Word) → WordIs link size w
-      → confirmation_found (read_distribution_confirmation_of (list_of (shown_of link size w)) link) false (distribution_count n) ≡ found_else (words w)
+      → confirmation_found (read_confirmation_of distribution_count (list_of (shown_of link size w)) link) None ≡ found_else (words w)
   unfolding confirmation_found
   found_else_lem w_none i = rw (zero_read link conf)
-  found_else_lem w_reset i = rw (reset_distribution_back link)
+  found_else_lem w_reset i = rw (reset_confirmation_back distribution_count link)
   found_else_lem (w_count c) i = rw (distribution_confirmation_back link size false (distribution_count c) (allowed link size c conf i))
   found_else_lem (w_error c) i = rw (distribution_confirmation_back link size true (distribution_count c) (allowed link size c conf i))
 
 -- of a controller on that link whose count is n
 pub finding_waiting : (c : Controller) (size : ℕ) → configured_of c.link ≡ true → (sp : Spoken) → SpokenIs c.link size sp
-    → finding_of c true (outcome_for sp) (words_for c.link size sp) ≡ found_waiting sp c.standing.count.0
+    → finding_of c (Some c.standing.count) (outcome_for sp) (words_for c.link size sp) ≡ found_waiting sp c.standing.count.0
 unfolding finding_of lost_of
 finding_waiting c size conf none i = refl
 finding_waiting c size conf bare i = refl
 finding_waiting c size conf (words w) i = found_waiting_lem c.link conf size c.standing.count.0 w i
 
 pub finding_else : (c : Controller) (size : ℕ) → configured_of c.link ≡ true → (sp : Spoken) → SpokenIs c.link size sp
-    → finding_of c false (outcome_for sp) (words_for c.link size sp) ≡ found_else sp
+    → finding_of c None (outcome_for sp) (words_for c.link size sp) ≡ found_else sp
 unfolding finding_of lost_of
 finding_else c size conf none i = refl
 finding_else c size conf bare i = refl

@@ -6,12 +6,12 @@ use mathlib.Core.Bool.{true, false}
 use mathlib.Core.List.{List}
 use native.Mathlib.Omega.{arith}
 use lib.Dec.{eqb}
+use Rattle.std.proofs.Common.{Ok}
 use lib.ListN.{length}
 use borrow.Author.Tests.{le-ltb, le-leb, lt-leb, ne_eqb, eq-eqb}
 use Rattle.words.specs.Bytes.{words_of}
 use Rattle.words.specs.Link.{configured_of, block_store_of, message_store_of}
 use Rattle.words.specs.Cutting.{message_subaddress_of, uses_of, data_answer_of}
-use Rattle.words.specs.declared.answer.Answer.TheVariants.{Accepted}
 use Rattle.words.specs.declared.link.Link.{Link}
 use Rattle.words.proofs.Ranges.{by, link_ranges}
 use Rattle.dist_terminal.specs.Data.{noted_of, answer_of, data_of, placed_of, store_after}
@@ -63,7 +63,7 @@ module _ (link : Link) (lent : List ℕ) (G : Ground link lent) (h : Hidden) (r 
     abbrev number : ℕ
     number = length (words_of (chunk b j))
 
-    data_good : data_answer_of link subaddress number ≡ Accepted
+    data_good : data_answer_of link subaddress number ≡ Ok tt
     unfolding data_answer_of
     data_good =
         let e = number_chunk b j in
@@ -72,7 +72,7 @@ module _ (link : Link) (lent : List ℕ) (G : Ground link lent) (h : Hidden) (r 
         let few : number ≤ 32 = omega (arith, e) in
         rw (u.used, ne_eqb number 0 ne, le-ltb 32 number few)
 
-    pub data_lands : (Terminal.receive_of (terminal_of link h r) subaddress (words_of (chunk b j)) (length r.parts.places) (length h.hand)).terminal
+    pub data_lands : (Terminal.receive_of (terminal_of link h r) subaddress (words_of (chunk b j)) (length r.parts.places) (length h.hand)).state
         ≡ terminal_of link h (received (parts link lent) (m_data j (chunk b j)) r)
     unfolding Terminal.receive_of data_of answer_of noted_of
     data_lands =

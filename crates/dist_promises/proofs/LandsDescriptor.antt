@@ -6,21 +6,22 @@ use mathlib.Core.Bool.{Bool, true, false}
 use mathlib.Core.List.{List}
 use native.Mathlib.Omega.{arith}
 use lib.Dec.{eqb}
+use Rattle.std.proofs.Common.{Result, Ok, Err}
 use lib.ListN.{length}
 use lib.Seq.{sets, length-sets}
 use Rattle.words.specs.Count.{distribution_count}
 use Rattle.words.specs.Control.{quality_of, descriptor_words, reset_words, list_of}
 use Rattle.words.specs.Reading.{read_descriptor_of}
 use Rattle.words.specs.declared.link.Link.{Link}
-use Rattle.words.specs.declared.control.Descriptor.TheVariants as D
+use Rattle.words.specs.declared.control.Control.TheVariants.{Block as Offered}
 use Rattle.words.proofs.Ranges.{by}
 use Rattle.words.proofs.Round.{descriptor_back, reset_descriptor_back}
 use Rattle.stores.proofs.Runs.{take_sets}
 use Rattle.dist_terminal.specs.Length.{length_met}
 use Rattle.dist_terminal.specs.Descriptor.{unmet_of, judged_of, block_step, taken_of, block_hand, descriptor_of, hand_after}
 use Rattle.dist_terminal.specs.Calls as Terminal
-use Rattle.dist_terminal.specs.declared.descriptor.Judged.{Judged}
-use Rattle.dist_terminal.specs.declared.descriptor.Judged.TheVariants.{NoReset, Again, HandFull, WrongLength, Good}
+use Rattle.dist_terminal.specs.declared.descriptor.Misfit.{Misfit}
+use Rattle.dist_terminal.specs.declared.descriptor.Misfit.TheVariants.{NoReset, Again, HandFull, WrongLength}
 use Rattle.promises.specs.Run.{Block}
 use Rattle.dist_promises.proofs.Modes.{Received, parts, with_parts}
 use Rattle.dist_promises.proofs.Model.{Hand, empty, held, Word, Rx, m_desc, m_reset, received, enough, on_desc}
@@ -29,12 +30,12 @@ use Rattle.dist_promises.proofs.Finding.{allowed}
 use Rattle.dist_promises.proofs.Lands.{all_long}
 
 -- by: Reset seen; count is the last handled; the hand; the length is enough
-abbrev judged_in : Bool → Bool → Hand → Bool → Judged
-judged_in false q g u = NoReset
-judged_in true true g u = Again
-judged_in true false (held c b) u = HandFull
-judged_in true false empty false = WrongLength
-judged_in true false empty true = Good
+abbrev judged_in : Bool → Bool → Hand → Bool → Result (Unit {0}) Misfit
+judged_in false q g u = Err NoReset
+judged_in true true g u = Err Again
+judged_in true false (held c b) u = Err HandFull
+judged_in true false empty false = Err WrongLength
+judged_in true false empty true = Ok tt
 
 -- what is hidden then: the size that 27T shows, and the lent hand
 abbrev desc_shown : Bool → Bool → Hand → Bool → ℕ → ℕ → ℕ
@@ -65,7 +66,7 @@ module _ (link : Link) (lent : List ℕ) (G : Ground link lent) where
   judged_is true false empty false h d p w k z e = rw e
 
   stepped_is : (e q : Bool) (g : Hand) (u : Bool) (h : Hidden) (d : ℕ) (p : Received) (w : Word) (k z : ℕ) → length ((parts link lent).block z p) ≡ z
-      → (hand : List ℕ) (caught : ℕ) → (block_step (judged_in e q g u) (terminal_of link h (rx e d p g w)) z (distribution_count k)).terminal
+      → (hand : List ℕ) (caught : ℕ) → (block_step (judged_in e q g u) (terminal_of link h (rx e d p g w)) z (distribution_count k)).state
       ≡ terminal_of link (with_hand hand (desc_shown e q g u z h.shown) caught h) (on_desc (parts link lent) e q g u k z (rx e d p g w))
   stepped_is false q g u h d p w k z l hand caught = refl
   stepped_is true true g u h d p w k z l hand caught = refl
@@ -143,13 +144,13 @@ module _ (link : Link) (lent : List ℕ) (G : Ground link lent) where
       block_long : length ((parts link lent).block z r.parts) ≡ z
       block_long = G.laws.size z r.parts i.most whole
 
-      read_back : read_descriptor_of words link ≡ D.Block z (quality_of v) (distribution_count k)
+      read_back : read_descriptor_of distribution_count words link ≡ Ok (Offered z (quality_of v) (distribution_count k))
       read_back = descriptor_back link z (quality_of v) (distribution_count k) (allowed link z k G.configured i)
 
       judged : judged_of (terminal_of link h r) z (quality_of v) (distribution_count k) ≡ judged_in r.seen known r.hand suffices
       judged = judged_is r.seen known r.hand v h r.handled r.parts r.word k z refl
 
-      pub desc_lands : (Terminal.receive_of (terminal_of link h r) 27 words (length r.parts.places) (length h.hand)).terminal
+      pub desc_lands : (Terminal.receive_of (terminal_of link h r) 27 words (length r.parts.places) (length h.hand)).state
           ≡ terminal_of link desc_hidden (received (parts link lent) (m_desc v k z) r)
       unfolding Terminal.receive_of descriptor_of
       desc_lands =
@@ -186,10 +187,10 @@ module _ (link : Link) (lent : List ℕ) (G : Ground link lent) where
 
     -- ---- a Reset
 
-    pub reset_lands : (Terminal.receive_of (terminal_of link h r) 27 (list_of reset_words) (length r.parts.places) (length h.hand)).terminal
+    pub reset_lands : (Terminal.receive_of (terminal_of link h r) 27 (list_of reset_words) (length r.parts.places) (length h.hand)).state
         ≡ terminal_of link h (received (parts link lent) m_reset r)
     unfolding Terminal.receive_of descriptor_of
-    reset_lands = rw (all_long link lent G h r whole room, reset_descriptor_back link)
+    reset_lands = rw (all_long link lent G h r whole room, reset_descriptor_back distribution_count link)
 
     pub reset_placed : Terminal.store_received (terminal_of link h r) 27 (list_of reset_words) r.parts.places (length h.hand) ≡ r.parts.places
     unfolding Terminal.store_received
@@ -197,4 +198,4 @@ module _ (link : Link) (lent : List ℕ) (G : Ground link lent) where
 
     pub reset_hand : Terminal.hand_received (terminal_of link h r) 27 (list_of reset_words) r.parts.places h.hand ≡ h.hand
     unfolding Terminal.hand_received hand_after
-    reset_hand = rw (all_long link lent G h r whole room, reset_descriptor_back link)
+    reset_hand = rw (all_long link lent G h r whole room, reset_descriptor_back distribution_count link)

@@ -5,6 +5,7 @@ use mathlib.Core.Bool.{false, cond}
 use mathlib.Core.List.{List}
 use lib.Dec.{eqb}
 use lib.ListN.{length}
+use Rattle.std.proofs.Common.{None}
 use Rattle.words.specs.Bytes.{words_of}
 use Rattle.words.specs.Count.{distribution_count}
 use Rattle.words.specs.Cutting.{message_subaddress_of}
@@ -15,7 +16,6 @@ use Rattle.dist_terminal.specs.Data.{noted_of, placed_of}
 use Rattle.dist_terminal.specs.Length.{length_met}
 use Rattle.dist_terminal.specs.Descriptor.{taken_of}
 use Rattle.dist_terminal.specs.Calls.{emptied}
-use Rattle.dist_terminal.specs.declared.state.Hand.TheVariants.{Empty}
 use Rattle.dist_terminal.specs.declared.state.Marks.{Marks}
 use Rattle.dist_terminal.specs.declared.state.Terminal.{Terminal}
 use Rattle.dist_promises.proofs.Parts.{Parts}
@@ -32,7 +32,7 @@ with_parts link s =
       link = link;
       seen = false;
       handled = distribution_count 0;
-      hand = Empty;
+      hand = None;
       shown = nothing_yet;
       marks = s.marks;
       received = s.received;

@@ -5,6 +5,7 @@ use mathlib.Core.Path.{◌≡◌}
 use mathlib.Core.Bool.{Bool, true, false}
 use mathlib.Core.List.{List}
 use lib.ListN.{length, take}
+use Rattle.std.proofs.Common.{Option, None, Some}
 use Rattle.words.specs.Count.{distribution_count}
 use Rattle.words.specs.Link.{configured_of, message_store_of}
 use Rattle.words.specs.Control.{quality_of, reset_words, distribution_confirmation_words}
@@ -18,8 +19,7 @@ use Rattle.dist_controller.specs.declared.state.Finding.{Finding}
 use Rattle.dist_controller.specs.declared.state.Controller.{Controller}
 use Rattle.dist_terminal.specs.State.{nothing_yet}
 use Rattle.dist_terminal.specs.Calls.{emptied}
-use Rattle.dist_terminal.specs.declared.state.Hand as RealHand
-use Rattle.dist_terminal.specs.declared.state.Hand.TheVariants.{Empty, Holding}
+use Rattle.dist_terminal.specs.declared.state.Held.{Held}
 use Rattle.dist_terminal.specs.declared.state.Terminal.{Terminal}
 use Rattle.dist_pair.specs.declared.state.Flight as RealFlight
 use Rattle.dist_pair.specs.declared.state.Flight.TheVariants.{NotArrived, Arrived, Caught}
@@ -39,8 +39,8 @@ pub record Hidden : Type 0 where
   pub hand : List ℕ
   pub size : ℕ
   pub quality : Quality
-  pub fate : Fate
-  pub found : Finding
+  pub fate : Option Fate
+  pub found : Option Finding
   pub shown : ℕ
   pub caught : ℕ
 
@@ -101,20 +101,20 @@ gone_in send_reset n = n
 gone_in await_reset n = n
 gone_in reading_reset n = n
 
-abbrev pub fate_in : Phase → Fate → Fate
+abbrev pub fate_in : Phase → Option Fate → Option Fate
 fate_in idle f = f
-fate_in (send_data b j) f = Fate.Open
-fate_in (send_desc v k) f = Fate.Open
-fate_in await f = Fate.Open
-fate_in reading f = Fate.Open
+fate_in (send_data b j) f = (Some Fate.Open)
+fate_in (send_desc v k) f = (Some Fate.Open)
+fate_in await f = (Some Fate.Open)
+fate_in reading f = (Some Fate.Open)
 fate_in (reset_first m) f = f
 fate_in send_reset f = f
 fate_in await_reset f = f
 fate_in reading_reset f = f
 
-abbrev pub hand_of : Hand → RealHand.Hand
-hand_of empty = Empty
-hand_of (held c b) = Holding (length b) (distribution_count c)
+abbrev pub hand_of : Hand → Option Held
+hand_of empty = None
+hand_of (held c b) = Some (record { size = length b; count = distribution_count c })
 
 abbrev pub shown_of : Link → ℕ → Word → Words
 shown_of link size w_none = nothing_yet
@@ -170,13 +170,13 @@ real link h s =
 
 -- ---- what is true of what is hidden
 
-abbrev pub NotOpen : Fate → Type 0
-NotOpen Fate.None = Unit {0}
-NotOpen Fate.Open = ⊥
-NotOpen Fate.Confirmed = Unit {0}
-NotOpen Fate.Refused = Unit {0}
-NotOpen Fate.Unconfirmed = Unit {0}
-NotOpen Fate.Abandoned = Unit {0}
+abbrev pub NotOpen : Option Fate → Type 0
+NotOpen None = Unit {0}
+NotOpen (Some Fate.Open) = ⊥
+NotOpen (Some Fate.Confirmed) = Unit {0}
+NotOpen (Some Fate.Refused) = Unit {0}
+NotOpen (Some Fate.Unconfirmed) = Unit {0}
+NotOpen (Some Fate.Abandoned) = Unit {0}
 
 -- a size and a count that the link allows
 pub record Within (link : Link) (n c : ℕ) : Type 0 where

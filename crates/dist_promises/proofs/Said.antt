@@ -2,6 +2,7 @@
 -- Assumes nothing.
 use mathlib.Core.Path.{◌≡◌, refl}
 use mathlib.Core.Bool.{Bool, true, false, cond, not, ◌&&◌}
+use Rattle.std.proofs.Common.{Option, Some, None}
 use Rattle.words.specs.Link.{configured_of}
 use Rattle.dist_controller.specs.Report.{report_of, acceptance_of, pending_of}
 use Rattle.dist_controller.specs.declared.state.Phase.{Phase}
@@ -14,7 +15,7 @@ use Rattle.dist_promises.specs.Distribution.{is_open, is_accepted, accepted_of, 
 use Rattle.dist_promises.proofs.Real.{NotOpen}
 
 -- fates f and g, acceptance a and b, before and after
-abbrev pub news_in : Fate → Fate → Bool → Bool → Answer
+abbrev pub news_in : Option Fate → Option Fate → Bool → Bool → Answer
 news_in f g a b = cond (is_open f) (end_of g (cond (b && not a) accepted ok)) (cond (b && not a) accepted ok)
 
 pending_not : (p : Phase) → is_accepted (pending_of p) ≡ false
@@ -51,10 +52,10 @@ pub news : (c d : Controller) → configured_of c.link ≡ true → configured_o
     → news_of (report_of c) (report_of d) ≡ news_in c.transfer.fate d.transfer.fate c.standing.accepted d.standing.accepted
 news c d conf conf' = λ i. news_in (report_fate c conf i) (report_fate d conf' i) (report_accepted c conf i) (report_accepted d conf' i)
 
-pub shut : (f : Fate) → NotOpen f → is_open f ≡ false
-shut Fate.None i = refl
-shut Fate.Open i = absurd i
-shut Fate.Confirmed i = refl
-shut Fate.Refused i = refl
-shut Fate.Unconfirmed i = refl
-shut Fate.Abandoned i = refl
+pub shut : (f : Option Fate) → NotOpen f → is_open f ≡ false
+shut None i = refl
+shut (Some Fate.Open) i = absurd i
+shut (Some Fate.Confirmed) i = refl
+shut (Some Fate.Refused) i = refl
+shut (Some Fate.Unconfirmed) i = refl
+shut (Some Fate.Abandoned) i = refl

@@ -5,6 +5,7 @@ use mathlib.Core.Path.{◌≡◌, refl, ap, subst, sym, ◌∙◌}
 use mathlib.Core.Bool.{Bool, false}
 use mathlib.Core.List.{List}
 use lib.ListN.{length}
+use Rattle.std.proofs.Common.{None, Some}
 use borrow.Author.Tests.{le-ltb}
 use Rattle.words.specs.Link.{block_store_of}
 use Rattle.words.specs.declared.link.Link.{Link}
@@ -15,7 +16,7 @@ use Rattle.words.specs.Cutting.{message_subaddress_of}
 use Rattle.dist_controller.specs.Asked.{asked_of}
 use Rattle.dist_controller.specs.Message.{words_asked}
 use Rattle.dist_controller.specs.Submit.{short_of}
-use Rattle.dist_controller.specs.declared.asked.Asked.TheVariants.{Nothing, Receive, Transmit}
+use Rattle.dist_controller.specs.declared.asked.Message.TheVariants.{Receive, Transmit}
 use Rattle.dist_pair.specs.Bus as Bus
 use Rattle.dist_pair.specs.Bus.{lent_short}
 use Rattle.promises.specs.Run.{Block, arrive}
@@ -41,7 +42,7 @@ module _ (link : Link) (lent : List ℕ) (G : Ground link lent) (h : Hidden) (t 
     abbrev Comes : Asked → Type 0
     Comes q = Stands link lent G (step_of arrive (real link h (state r away))) (state (arrives (parts link lent) q away r) (flown q away r.word))
 
-    comes_data : (b : Block) (j n : ℕ) → asked_of (controller_of link h t m) ≡ Receive (message_subaddress_of link j) n
+    comes_data : (b : Block) (j n : ℕ) → asked_of (controller_of link h t m) ≡ Some (Receive (message_subaddress_of link j) n)
         → words_asked (controller_of link h t m) h.store ≡ words_of (chunk b j) → length b ≤ link.largest → j < messages (length b)
         → Comes (asked (m_data j (chunk b j)))
     unfolding Bus.arrive_of Bus.receive_of Bus.places_after Bus.places_received Bus.hand_after Bus.hand_received
@@ -125,7 +126,7 @@ module _ (link : Link) (lent : List ℕ) (G : Ground link lent) (h : Hidden) (t 
     abbrev caught_hidden : Hidden
     caught_hidden = with_hand h.hand h.shown h.shown h
 
-    comes_read : asked_of (controller_of link h t m) ≡ Transmit 27 2 → Comes (asked m_read)
+    comes_read : asked_of (controller_of link h t m) ≡ Some (Transmit 27 2) → Comes (asked m_read)
     unfolding Bus.arrive_of Bus.places_after Bus.hand_after
     comes_read asks =
         record {
@@ -143,7 +144,7 @@ module _ (link : Link) (lent : List ℕ) (G : Ground link lent) (h : Hidden) (t 
           };
         }
 
-    comes_none : asked_of (controller_of link h t m) ≡ Nothing → Comes unasked
+    comes_none : asked_of (controller_of link h t m) ≡ None → Comes unasked
     unfolding Bus.arrive_of Bus.places_after Bus.hand_after
     comes_none asks = record { hidden = h; is = rw (lent_long, asks); facts = g }
 

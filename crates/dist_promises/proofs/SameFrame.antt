@@ -8,6 +8,7 @@ use native.Mathlib.Omega.{arith}
 use lib.Dec.{leb}
 use lib.ListN.{length}
 use borrow.Author.Tests.{le-ltb}
+use Rattle.std.proofs.Common.{Some, None}
 use Rattle.words.specs.Link.{configured_of, message_store_of}
 use Rattle.words.specs.Tick.{next_tick, age_of}
 use Rattle.words.specs.declared.link.Link.{Link}
@@ -66,7 +67,7 @@ asks_alike reading_reset true link h a n s now since cost = refl
 asks_alike reading_reset false link h a n s now since cost = refl
 
 pub frame_controller : (link : Link) → configured_of link ≡ true → (h : Hidden) (a : Bool) (n s : ℕ) (p : Phase) (now since cost : ℕ)
-    → (Controller.frame_of (controller_of link h (tx a n s p) (meter now since cost))).controller
+    → (Controller.frame_of (controller_of link h (tx a n s p) (meter now since cost))).state
     ≡ controller_of link h (tx a n s (framed p (leb first_age (age (ticked now) since)))) (meter (ticked now) since (asks_read p (leb first_age (age (ticked now) since)) cost))
 unfolding Controller.frame_of ask_again due_of next_tick age_of
 frame_controller link conf h a n s p now since cost =
@@ -103,14 +104,14 @@ cut_hidden p h =
       hand = h.hand;
       size = size_in p h.size;
       quality = quality_in p h.quality;
-      fate = cond (is_open p) Fate.Abandoned h.fate;
+      fate = cond (is_open p) (Some Fate.Abandoned) h.fate;
       found = h.found;
       shown = h.shown;
       caught = h.caught;
     }
 
 pub cut_alike : (p : Phase) (link : Link) → configured_of link ≡ true → (h : Hidden) (a : Bool) (n s now since cost : ℕ)
-    → (Controller.reset_of (controller_of link h (tx a n s p) (meter now since cost))).controller
+    → (Controller.reset_of (controller_of link h (tx a n s p) (meter now since cost))).state
     ≡ controller_of link (cut_hidden p h) (tx false n s (cut (asked_by p n))) (meter now since cost)
 unfolding Controller.reset_of cut_transfer
 cut_alike idle link conf h a n s now since cost = rw conf
@@ -162,8 +163,8 @@ restart_hidden h =
       hand = h.hand;
       size = 0;
       quality = BestEffort;
-      fate = Fate.None;
-      found = Finding.None;
+      fate = None;
+      found = None;
       shown = h.shown;
       caught = h.caught;
     }

@@ -8,6 +8,7 @@ use mathlib.Core.Logic.{◌⊎◌, inl, inr, ⊎_elim}
 use native.Mathlib.Omega.{arith}
 use lib.Dec.{eqb, leb, ltb}
 use lib.ListN.{length, take}
+use Rattle.std.proofs.Common.{Ok, Err, Option, Some}
 use lib.Seq.{sets-eq, take_all, take-append-le}
 use borrow.Author.Tests.{le-ltb, lt-ltb, le-leb, lt-leb, eqb-true, eqb-false, ltb-true, ltb-false, leb-true, leb-false}
 use Rattle.words.specs.Bytes.{bytes_of, words_of, Octets}
@@ -15,8 +16,9 @@ use Rattle.words.specs.Count.{next_number}
 use Rattle.words.specs.Link.{configured_of, block_store_of}
 use Rattle.words.specs.Cutting.{size_answer_of}
 use Rattle.words.specs.Control.{quality_of}
-use Rattle.words.specs.declared.answer.Answer as Words
-use Rattle.words.specs.declared.answer.Answer.TheVariants as WordsAnswer
+use Rattle.words.specs.Refusal as Words
+use Rattle.words.specs.declared.refusal.Refusal as Why
+use Rattle.words.specs.declared.refusal.Refusal.TheVariants.{NoAcceptedReset, BadSize, TransferOpen, TransfersSpent}
 use Rattle.words.specs.declared.link.Link.{Link}
 use Rattle.words.proofs.Ranges.{by, largest_cases}
 use Rattle.stores.specs.Copying.{stored_of}
@@ -42,13 +44,13 @@ use Rattle.dist_promises.proofs.Said.{news_in, news, shut}
 
 -- the pair's answer, and whether the model lets it out
 record Agreed (answer : Words.Answer) (go : Bool) (why : Type 0) : Type 0 where
-  accepted : answer ≡ WordsAnswer.Accepted
+  accepted : answer ≡ Ok tt
   goes : go ≡ true
   reason : why
 
 record Refused (answer : Words.Answer) (go : Bool) : Type 0 where
-  number : ℕ
-  refused : answer ≡ WordsAnswer.Refused number
+  why : Why.Refusal
+  refused : answer ≡ Err why
   stays : go ≡ false
 
 record Size (link : Link) (n : ℕ) : Type 0 where
@@ -60,21 +62,21 @@ unfolding size_answer_of
 size_agrees link n =
     by (eqb n 0)
     (λ z. let e = eqb-true n 0 z in
-    inr (record { number = 3; refused = rw z; stays = rw e }))
+    inr (record { why = BadSize; refused = rw z; stays = rw e }))
     (λ z.
     let ne : n ≡ 0 → ⊥ = eqb-false n 0 z in
     let p : 0 < n = omega arith in
     by (ltb link.largest n)
     (λ o. let l = ltb-true link.largest n o in
-    inr (record { number = 3; refused = rw (z, o); stays = rw (lt-leb n link.largest l, lt-ltb 0 n p) }))
+    inr (record { why = BadSize; refused = rw (z, o); stays = rw (lt-leb n link.largest l, lt-ltb 0 n p) }))
     (λ o. let l = ltb-false link.largest n o in
     inl (record { accepted = rw (z, o); goes = rw (lt-ltb 0 n p, le-leb n link.largest l); reason = record { some = p; most = l } })))
 
-room_agrees : (spent : ℕ) → Agreed (cond (leb limit spent) (WordsAnswer.Refused 5) WordsAnswer.Accepted) (ltb spent 254) (spent < 254)
-    ⊎ Refused (cond (leb limit spent) (WordsAnswer.Refused 5) WordsAnswer.Accepted) (ltb spent 254)
+room_agrees : (spent : ℕ) → Agreed (cond (leb limit spent) (Err TransfersSpent) (Ok tt)) (ltb spent 254) (spent < 254)
+    ⊎ Refused (cond (leb limit spent) (Err TransfersSpent) (Ok tt)) (ltb spent 254)
 room_agrees spent =
     by (leb limit spent)
-    (λ o. inr (record { number = 5; refused = rw o; stays = le-ltb spent 254 (leb-true limit spent o) }))
+    (λ o. inr (record { why = TransfersSpent; refused = rw o; stays = le-ltb spent 254 (leb-true limit spent o) }))
     (λ o. let l = leb-false limit spent o in inl (record { accepted = rw o; goes = lt-ltb spent 254 l; reason = l }))
 
 record Reason (link : Link) (n spent : ℕ) : Type 0 where
@@ -84,23 +86,23 @@ record Reason (link : Link) (n spent : ℕ) : Type 0 where
 
 -- with a Reset accepted and nothing open
 idle_agrees : (link : Link) (n spent : ℕ)
-    → Agreed (then_answer (size_answer_of link n) (cond (leb limit spent) (WordsAnswer.Refused 5) WordsAnswer.Accepted)) (ltb spent 254 && sized link.largest n) (Reason link n spent)
-    ⊎ Refused (then_answer (size_answer_of link n) (cond (leb limit spent) (WordsAnswer.Refused 5) WordsAnswer.Accepted)) (ltb spent 254 && sized link.largest n)
+    → Agreed (then_answer (size_answer_of link n) (cond (leb limit spent) (Err TransfersSpent) (Ok tt))) (ltb spent 254 && sized link.largest n) (Reason link n spent)
+    ⊎ Refused (then_answer (size_answer_of link n) (cond (leb limit spent) (Err TransfersSpent) (Ok tt))) (ltb spent 254 && sized link.largest n)
 idle_agrees link n spent =
     ⊎_elim
     (λ (f : Agreed (size_answer_of link n) (sized link.largest n) (Size link n)).
     ⊎_elim
-    (λ (r : Agreed (cond (leb limit spent) (WordsAnswer.Refused 5) WordsAnswer.Accepted) (ltb spent 254) (spent < 254)).
+    (λ (r : Agreed (cond (leb limit spent) (Err TransfersSpent) (Ok tt)) (ltb spent 254) (spent < 254)).
     inl (record {
       accepted = rw (f.accepted, r.accepted);
       goes = rw (f.goes, r.goes);
       reason = record { some = f.reason.some; most = f.reason.most; few = r.reason };
     }))
-    (λ (r : Refused (cond (leb limit spent) (WordsAnswer.Refused 5) WordsAnswer.Accepted) (ltb spent 254)).
-    inr (record { number = r.number; refused = rw (f.accepted, r.refused); stays = rw r.stays }))
+    (λ (r : Refused (cond (leb limit spent) (Err TransfersSpent) (Ok tt)) (ltb spent 254)).
+    inr (record { why = r.why; refused = rw (f.accepted, r.refused); stays = rw r.stays }))
     (room_agrees spent))
     (λ (f : Refused (size_answer_of link n) (sized link.largest n)).
-    inr (record { number = f.number; refused = rw f.refused; stays = both_false (ltb spent 254) (sized link.largest n) f.stays }))
+    inr (record { why = f.why; refused = rw f.refused; stays = both_false (ltb spent 254) (sized link.largest n) f.stays }))
     (size_agrees link n)
   where
     both_false : (a b : Bool) → b ≡ false → (a && b) ≡ false
@@ -108,9 +110,9 @@ idle_agrees link n spent =
     both_false false b e = refl
 
 -- while a transfer is open
-open_refused : (answer : Words.Answer) (n : ℕ) → Refused (then_answer answer (WordsAnswer.Refused n)) false
-open_refused WordsAnswer.Accepted n = record { number = n; refused = refl; stays = refl }
-open_refused (WordsAnswer.Refused m) n = record { number = m; refused = refl; stays = refl }
+open_refused : (answer : Words.Answer) (r : Why.Refusal) → Refused (then_answer answer (Err r)) false
+open_refused (Ok u) r = record { why = r; refused = refl; stays = refl }
+open_refused (Err q) r = record { why = q; refused = refl; stays = refl }
 
 abbrev tx : Bool → ℕ → ℕ → Phase → Tx
 tx a n s p = record { accepted = a; count = n; spent = s; phase = p }
@@ -130,18 +132,18 @@ module _ (link : Link) (conf : configured_of link ≡ true) (h : Hidden) (m : Me
       → Agreed (answer a n s p) (submits a p (ltb s 254 && sized link.largest size)) ((a ≡ true) × ((p ≡ idle) × Reason link size s))
       ⊎ Refused (answer a n s p) (submits a p (ltb s 254 && sized link.largest size))
   unfolding submit_answer_of room_answer_of
-  answer_agrees p false n s i = inr (record { number = 2; refused = rw store_long; stays = refl })
+  answer_agrees p false n s i = inr (record { why = NoAcceptedReset; refused = rw store_long; stays = refl })
   answer_agrees idle true n s i =
       rw store_long
       (⊎_elim
-      (λ (g : Agreed (then_answer (size_answer_of link size) (cond (leb limit s) (WordsAnswer.Refused 5) WordsAnswer.Accepted)) (ltb s 254 && sized link.largest size) (Reason link size s)).
+      (λ (g : Agreed (then_answer (size_answer_of link size) (cond (leb limit s) (Err TransfersSpent) (Ok tt))) (ltb s 254 && sized link.largest size) (Reason link size s)).
       inl (record { accepted = g.accepted; goes = g.goes; reason = (refl, (refl, g.reason)) }))
       inr
       (idle_agrees link size s))
-  answer_agrees (send_data b j) true n s i = rw store_long (inr (open_refused (size_answer_of link size) 4))
-  answer_agrees (send_desc v k) true n s i = rw store_long (inr (open_refused (size_answer_of link size) 4))
-  answer_agrees await true n s i = rw store_long (inr (open_refused (size_answer_of link size) 4))
-  answer_agrees reading true n s i = rw store_long (inr (open_refused (size_answer_of link size) 4))
+  answer_agrees (send_data b j) true n s i = rw store_long (inr (open_refused (size_answer_of link size) TransferOpen))
+  answer_agrees (send_desc v k) true n s i = rw store_long (inr (open_refused (size_answer_of link size) TransferOpen))
+  answer_agrees await true n s i = rw store_long (inr (open_refused (size_answer_of link size) TransferOpen))
+  answer_agrees reading true n s i = rw store_long (inr (open_refused (size_answer_of link size) TransferOpen))
   answer_agrees (reset_first q) true n s i = not_both i.0
   answer_agrees send_reset true n s i = not_both i.0
   answer_agrees await_reset true n s i = not_both i.0
@@ -252,7 +254,7 @@ module _ (link : Link) (lent : List ℕ) (G : Ground link lent) where
 
   -- ---- what it says
 
-  opens_quietly : (f : Fate) (a : Bool) → NotOpen f → a ≡ true → news_in f Fate.Open a a ≡ ok
+  opens_quietly : (f : Option Fate) (a : Bool) → NotOpen f → a ≡ true → news_in f (Some Fate.Open) a a ≡ ok
   opens_quietly f a i e = rw (shut f i, e)
 
   says_accepted : (h : Hidden) (s : State Received) (b : Load) → Facts link lent G h s → Good h s b → says_of (submit b) (real link h s) ≡ ok
@@ -266,7 +268,7 @@ module _ (link : Link) (lent : List ℕ) (G : Ground link lent) where
       (subst (λ (p : Phase). PhaseIs link h p t.accepted t.count s.meter.cost) e f.phase) g.reason.0 in
       rw g.accepted
       (news c d G.configured G.configured
-      ∙ ap (λ (p : Phase). news_in (fate_in p h.fate) Fate.Open t.accepted t.accepted) e
+      ∙ ap (λ (p : Phase). news_in (fate_in p h.fate) (Some Fate.Open) t.accepted t.accepted) e
       ∙ quiet)
 
   says_refused : (h : Hidden) (s : State Received) (b : Load) → Bad h s b → says_of (submit b) (real link h s) ≡ denied

@@ -7,10 +7,13 @@ use mathlib.Core.List.{List}
 use lib.Dec.{leb}
 use Rattle.words.specs.declared.link.Link.{Link}
 use Rattle.dist_controller.specs.Report.{report_of}
-use Rattle.dist_controller.specs.Told.{refuse, told_of}
+use Rattle.dist_controller.specs.Told.{told_of}
 use Rattle.dist_pair.specs.Bus as Bus
 use Rattle.dist_pair.specs.Bus.{tell_of}
-use Rattle.dist_pair.specs.declared.state.Stepped.{Stepped}
+use Rattle.words.specs.Refusal.{refuse}
+use Rattle.words.specs.declared.refusal.Refusal.TheVariants.{NothingAsked}
+use Rattle.words.specs.declared.refusal.Stepped.{Stepped}
+use Rattle.dist_pair.specs.declared.state.Pair.{Pair}
 use Rattle.promises.specs.Run.{told_done, told_no_reply, Answer, denied}
 use Rattle.dist_promises.specs.Distribution.{Ends, step_of, says_of, answer_of}
 use Rattle.dist_promises.proofs.Modes.{Received, parts}
@@ -28,11 +31,11 @@ module _ (link : Link) (lent : List ℕ) (G : Ground link lent) (h : Hidden) (a 
   state p = record { tx = tx a n s p; rx = r; flight = f; meter = meter now since cost }
 
   module _ (wide : ℕ) (sp : Spoken) (w : SpokenIs link wide sp) where
-    abbrev spoken : Phase → Stepped
+    abbrev spoken : Phase → Stepped Pair (Unit {0})
     spoken p = tell_of (real link h (state p)).pair (outcome_for sp) (words_for link wide sp)
 
     abbrev ends : Phase → Ends
-    ends p = record { pair = (spoken p).pair; store = h.store; places = r.parts.places; hand = h.hand }
+    ends p = record { pair = (spoken p).state; store = h.store; places = r.parts.places; hand = h.hand }
 
     -- the message leaves the bus
     abbrev next : Phase → State Received
@@ -62,7 +65,7 @@ module _ (link : Link) (lent : List ℕ) (G : Ground link lent) (h : Hidden) (a 
           };
         }
 
-    tell_unasked : (p : Phase) → Facts link lent G h (state p) → told_of (real link h (state p)).pair.controller (outcome_for sp) (words_for link wide sp) ≡ refuse 18 (real link h (state p)).pair.controller
+    tell_unasked : (p : Phase) → Facts link lent G h (state p) → told_of (real link h (state p)).pair.controller (outcome_for sp) (words_for link wide sp) ≡ refuse NothingAsked (real link h (state p)).pair.controller
         → Stands link lent G (ends p) (state p)
     unfolding tell_of
     tell_unasked p g e = record { hidden = h; is = rw e; facts = g }
@@ -81,7 +84,7 @@ module _ (link : Link) (lent : List ℕ) (G : Ground link lent) (h : Hidden) (a 
     -- ---- what it says
 
     abbrev answer : Phase → Answer
-    answer p = answer_of (spoken p).answer (report_of (real link h (state p)).pair.controller) (report_of (spoken p).pair.controller)
+    answer p = answer_of (spoken p).answer (report_of (real link h (state p)).pair.controller) (report_of (spoken p).state.controller)
 
     say_asked : (p : Phase) → Spoke link h wide a n s now since cost sp p → answer p ≡ of_told p (told_for sp) n (leb link.window (age now since))
     unfolding tell_of
@@ -92,7 +95,7 @@ module _ (link : Link) (lent : List ℕ) (G : Ground link lent) (h : Hidden) (a 
         G.configured G.configured
         ∙ k.says)
 
-    say_unasked : (p : Phase) → told_of (real link h (state p)).pair.controller (outcome_for sp) (words_for link wide sp) ≡ refuse 18 (real link h (state p)).pair.controller → answer p ≡ denied
+    say_unasked : (p : Phase) → told_of (real link h (state p)).pair.controller (outcome_for sp) (words_for link wide sp) ≡ refuse NothingAsked (real link h (state p)).pair.controller → answer p ≡ denied
     unfolding tell_of
     say_unasked p e = rw e
 

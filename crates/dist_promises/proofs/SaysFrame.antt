@@ -5,6 +5,7 @@ use mathlib.Core.Path.{◌≡◌, refl, ap, ◌∙◌}
 use mathlib.Core.Bool.{Bool, true, false, cond}
 use mathlib.Core.List.{List}
 use lib.Dec.{leb}
+use Rattle.std.proofs.Common.{Option, Some, None}
 use Rattle.words.specs.declared.link.Link.{Link}
 use Rattle.dist_controller.specs.Report.{report_of}
 use Rattle.dist_controller.specs.State.{fresh_of}
@@ -23,29 +24,29 @@ use Rattle.dist_promises.proofs.Said.{news_in, news, shut}
 use Rattle.dist_promises.proofs.SameFrame.{tx, meter, frame_controller, cut_hidden, cut_alike, store_long}
 
 -- where neither fate nor acceptance changes there is nothing to tell
-pub quiet : (f : Fate) (a : Bool) → news_in f f a a ≡ ok
-quiet Fate.None true = refl
-quiet Fate.None false = refl
-quiet Fate.Open true = refl
-quiet Fate.Open false = refl
-quiet Fate.Confirmed true = refl
-quiet Fate.Confirmed false = refl
-quiet Fate.Refused true = refl
-quiet Fate.Refused false = refl
-quiet Fate.Unconfirmed true = refl
-quiet Fate.Unconfirmed false = refl
-quiet Fate.Abandoned true = refl
-quiet Fate.Abandoned false = refl
+pub quiet : (f : Option Fate) (a : Bool) → news_in f f a a ≡ ok
+quiet None true = refl
+quiet None false = refl
+quiet (Some Fate.Open) true = refl
+quiet (Some Fate.Open) false = refl
+quiet (Some Fate.Confirmed) true = refl
+quiet (Some Fate.Confirmed) false = refl
+quiet (Some Fate.Refused) true = refl
+quiet (Some Fate.Refused) false = refl
+quiet (Some Fate.Unconfirmed) true = refl
+quiet (Some Fate.Unconfirmed) false = refl
+quiet (Some Fate.Abandoned) true = refl
+quiet (Some Fate.Abandoned) false = refl
 
-restarts_quietly : (f : Fate) (a : Bool) → news_in f Fate.None a false ≡ ok
-restarts_quietly Fate.None a = refl
-restarts_quietly Fate.Open a = refl
-restarts_quietly Fate.Confirmed a = refl
-restarts_quietly Fate.Refused a = refl
-restarts_quietly Fate.Unconfirmed a = refl
-restarts_quietly Fate.Abandoned a = refl
+restarts_quietly : (f : Option Fate) (a : Bool) → news_in f None a false ≡ ok
+restarts_quietly None a = refl
+restarts_quietly (Some Fate.Open) a = refl
+restarts_quietly (Some Fate.Confirmed) a = refl
+restarts_quietly (Some Fate.Refused) a = refl
+restarts_quietly (Some Fate.Unconfirmed) a = refl
+restarts_quietly (Some Fate.Abandoned) a = refl
 
-framed_fate : (p : Phase) (x : Bool) (f : Fate) → fate_in (framed p x) f ≡ fate_in p f
+framed_fate : (p : Phase) (x : Bool) (f : Option Fate) → fate_in (framed p x) f ≡ fate_in p f
 framed_fate idle true f = refl
 framed_fate idle false f = refl
 framed_fate (send_data b j) true f = refl
@@ -66,7 +67,7 @@ framed_fate reading_reset true f = refl
 framed_fate reading_reset false f = refl
 
 cut_news : (p : Phase) (link : Link) (h : Hidden) (a : Bool) (n cost : ℕ) → PhaseIs link h p a n cost
-    → news_in (fate_in p h.fate) (fate_in (cut (asked_by p n)) (cond (is_open p) Fate.Abandoned h.fate)) a false ≡ cond (is_open p) (failed abandoned) ok
+    → news_in (fate_in p h.fate) (fate_in (cut (asked_by p n)) (cond (is_open p) (Some Fate.Abandoned) h.fate)) a false ≡ cond (is_open p) (failed abandoned) ok
 cut_news idle link h a n cost i = rw (shut h.fate i)
 cut_news (send_data b j) link h a n cost i = refl
 cut_news (send_desc v k) link h a n cost i = refl
@@ -88,7 +89,7 @@ module _ (link : Link) (lent : List ℕ) (G : Ground link lent) where
       rw G.configured
       (ap (λ (c' : RealState.Controller). news_of (report_of c) (report_of c')) (rw G.configured at e)
       ∙ news c d G.configured G.configured
-      ∙ ap (λ (f : Fate). news_in (fate_in s.tx.phase h.fate) f s.tx.accepted s.tx.accepted) (framed_fate s.tx.phase x h.fate)
+      ∙ ap (λ (f : Option Fate). news_in (fate_in s.tx.phase h.fate) f s.tx.accepted s.tx.accepted) (framed_fate s.tx.phase x h.fate)
       ∙ quiet (fate_in s.tx.phase h.fate) s.tx.accepted)
 
   pub says_frame : (x : Ends) (s : State Received) → Stands link lent G x s → says_of frame x ≡ ok

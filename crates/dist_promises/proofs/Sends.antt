@@ -6,6 +6,7 @@ use mathlib.Core.Bool.{Bool}
 use mathlib.Core.List.{List}
 use native.Mathlib.Omega.{arith}
 use lib.ListN.{length, take, length-take}
+use Rattle.std.proofs.Common.{None, Some}
 use borrow.Author.Tests.{lt-ltb, le-ltb, ne_eqb, eq-eqb}
 use Rattle.words.specs.Bytes.{words_of}
 use Rattle.words.specs.Count.{distribution_count}
@@ -14,7 +15,7 @@ use Rattle.words.specs.Cutting.{messages_of, message_words_of, message_subaddres
 use Rattle.words.specs.declared.link.Link.{Link}
 use Rattle.dist_controller.specs.Asked.{transfer_message, last_of, asked_of}
 use Rattle.dist_controller.specs.Message.{transfer_words_at, words_asked}
-use Rattle.dist_controller.specs.declared.asked.Asked.TheVariants.{Nothing, Receive, Transmit}
+use Rattle.dist_controller.specs.declared.asked.Message.TheVariants.{Receive, Transmit}
 use Rattle.dist_controller.specs.declared.state.Controller.{Controller}
 use Rattle.promises.specs.Run.{Block}
 use Rattle.promises.specs.Promise.{messages}
@@ -28,7 +29,7 @@ use Rattle.dist_promises.proofs.SameFrame.{tx, meter}
 -- message j of a block, as it is asked for
 pub record SendsData (link : Link) (c : Controller) (store : List ℕ) (j : ℕ) (d : Block) : Type 0 where
   pub number : ℕ
-  pub asked : asked_of c ≡ Receive (message_subaddress_of link j) number
+  pub asked : asked_of c ≡ Some (Receive (message_subaddress_of link j) number)
   pub words : words_asked c store ≡ words_of d
   pub block : Block
   pub is : chunk block j ≡ d
@@ -36,15 +37,15 @@ pub record SendsData (link : Link) (c : Controller) (store : List ℕ) (j : ℕ)
   pub fits : length block ≤ link.largest
 
 pub record SendsWords (link : Link) (c : Controller) (store ws : List ℕ) : Type 0 where
-  pub asked : asked_of c ≡ Receive 27 2
+  pub asked : asked_of c ≡ Some (Receive 27 2)
   pub words : words_asked c store ≡ ws
 
 abbrev pub Sends : Link → Controller → List ℕ → Asked → Type 0
-Sends link c store unasked = asked_of c ≡ Nothing
+Sends link c store unasked = asked_of c ≡ None
 Sends link c store (asked (m_data j d)) = SendsData link c store j d
 Sends link c store (asked (m_desc v k z)) = SendsWords link c store (list_of (descriptor_words link z (quality_of v) (distribution_count k))) × Within link z k
 Sends link c store (asked m_reset) = SendsWords link c store (list_of reset_words)
-Sends link c store (asked m_read) = asked_of c ≡ Transmit 27 2
+Sends link c store (asked m_read) = asked_of c ≡ Some (Transmit 27 2)
 
 last_suc : (j : ℕ) → last_of (suc j) ≡ j
 unfolding last_of

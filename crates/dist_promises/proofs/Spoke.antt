@@ -8,15 +8,17 @@ use native.Mathlib.Omega.{arith}
 use lib.Dec.{T, eqb, leb, ltb}
 use lib.ListN.{length}
 use borrow.Author.Tests.{le-ltb, lt-ltb, ne_eqb, ltb-true, ltb-false}
+use Rattle.std.proofs.Common.{Option, Some}
 use Rattle.words.specs.Link.{configured_of}
 use Rattle.words.specs.Tick.{age_of}
 use Rattle.words.specs.Control.{quality_of}
 use Rattle.words.specs.Cutting.{messages_of}
+use Rattle.words.specs.Refusal.{accept}
 use Rattle.words.specs.declared.link.Link.{Link}
 use Rattle.words.specs.declared.control.Quality.{Quality}
 use Rattle.words.proofs.Ranges.{by, largest_cases}
 use Rattle.dist_controller.specs.State.{counted_of, with_finding}
-use Rattle.dist_controller.specs.Told.{accept, told_of, sent_of, stops_of, overdue_of, unanswered_of, read_of, told_reading}
+use Rattle.dist_controller.specs.Told.{told_of, sent_of, stops_of, overdue_of, unanswered_of, read_of, told_reading}
 use Rattle.dist_controller.specs.declared.state.Fate.{Fate}
 use Rattle.dist_controller.specs.declared.state.Finding.{Finding}
 use Rattle.dist_controller.specs.declared.state.Controller.{Controller}
@@ -30,7 +32,7 @@ use Rattle.dist_promises.proofs.SaysFrame.{quiet}
 use Rattle.dist_promises.proofs.SameFrame.{tx, meter}
 use Rattle.dist_promises.proofs.Finding.{Spoken, none, bare, words, told_for, outcome_for, words_for, SpokenIs, found_waiting, finding_waiting}
 
-abbrev pub with_transfer : ℕ → Quality → Fate → Finding → Hidden → Hidden
+abbrev pub with_transfer : ℕ → Quality → Option Fate → Option Finding → Hidden → Hidden
 with_transfer size quality fate found h =
     record {
       store = h.store;
@@ -64,8 +66,8 @@ module _ (link : Link) (h : Hidden) (wide : ℕ) (a : Bool) (n s now since cost 
   pub record Spoke (sp : Spoken) (p : Phase) : Type 0 where
     pub size : ℕ
     pub quality : Quality
-    pub fate : Fate
-    pub found : Finding
+    pub fate : Option Fate
+    pub found : Option Finding
     pub is : told_of (c p) (outcome_for sp) (words_for link wide sp)
         ≡ accept (controller_of link (with_transfer size quality fate found h) (t sp p) (meter now (stamped p (told_for sp) now since) (costs p (told_for sp) cost)))
     pub phase : PhaseIs link (with_transfer size quality fate found h) (t sp p).phase (t sp p).accepted (t sp p).count (costs p (told_for sp) cost)
@@ -86,7 +88,7 @@ module _ (link : Link) (h : Hidden) (wide : ℕ) (a : Bool) (n s now since cost 
           found = h.found;
           is = rw (conf, lt-ltb (messages k) (suc (messages k)) l, i.gone);
           phase = tt;
-          says = quiet Fate.Open a;
+          says = quiet (Some Fate.Open) a;
           count = low;
         }
 
@@ -107,7 +109,7 @@ module _ (link : Link) (h : Hidden) (wide : ℕ) (a : Bool) (n s now since cost 
         record {
           size = length d;
           quality = quality_of true;
-          fate = Fate.Abandoned;
+          fate = (Some Fate.Abandoned);
           found = h.found;
           is = rw (conf, le-ltb (messages (length d)) (suc j) l, i.gone);
           phase = tt;
@@ -131,7 +133,7 @@ module _ (link : Link) (h : Hidden) (wide : ℕ) (a : Bool) (n s now since cost 
           found = h.found;
           is = rw (conf, le-ltb (messages (length d)) (suc j) l, go, re, z, counted (suc j) few);
           phase = rw (re, z) (record { range = i.range; within = ltb-true (suc j) (messages (length d)) z; gone = m; bytes = i.bytes });
-          says = rw (re, z) (quiet Fate.Open a);
+          says = rw (re, z) (quiet (Some Fate.Open) a);
           count = low;
         })
         (λ z.
@@ -143,7 +145,7 @@ module _ (link : Link) (h : Hidden) (wide : ℕ) (a : Bool) (n s now since cost 
           found = h.found;
           is = rw (conf, le-ltb (messages (length d)) (suc j) l, go, re, z, counted (suc j) few, last);
           phase = rw (re, z) (record { range = i.range; gone = m ∙ ap suc last });
-          says = rw (re, z) (quiet Fate.Open a);
+          says = rw (re, z) (quiet (Some Fate.Open) a);
           count = low;
         })
 
@@ -169,8 +171,8 @@ module _ (link : Link) (h : Hidden) (wide : ℕ) (a : Bool) (n s now since cost 
         (λ z. record {
           size = h.size;
           quality = h.quality;
-          fate = Fate.Unconfirmed;
-          found = f;
+          fate = (Some Fate.Unconfirmed);
+          found = Some f;
           is = rw (conf, found, again (with_finding f (c reading)), g, stays x (tx a n s reading), z);
           phase = rw (g, stays x (tx a n s reading), z) tt;
           says = rw (g, stays x (tx a n s reading), says x, z);
@@ -180,10 +182,10 @@ module _ (link : Link) (h : Hidden) (wide : ℕ) (a : Bool) (n s now since cost 
           size = h.size;
           quality = h.quality;
           fate = h.fate;
-          found = f;
+          found = Some f;
           is = rw (conf, found, again (with_finding f (c reading)), g, stays x (tx a n s reading), z);
           phase = rw (g, stays x (tx a n s reading), z) tt;
-          says = rw (g, stays x (tx a n s reading), says x, z) (quiet Fate.Open a);
+          says = rw (g, stays x (tx a n s reading), says x, z) (quiet (Some Fate.Open) a);
           count = rw (g, stays x (tx a n s reading)) low;
         })
 
@@ -194,8 +196,8 @@ module _ (link : Link) (h : Hidden) (wide : ℕ) (a : Bool) (n s now since cost 
         record {
           size = h.size;
           quality = h.quality;
-          fate = Fate.Confirmed;
-          found = Finding.Confirmed;
+          fate = (Some Fate.Confirmed);
+          found = (Some Finding.Confirmed);
           is = rw (conf, found, e);
           phase = rw e tt;
           says = rw e;
@@ -209,8 +211,8 @@ module _ (link : Link) (h : Hidden) (wide : ℕ) (a : Bool) (n s now since cost 
         record {
           size = h.size;
           quality = h.quality;
-          fate = Fate.Refused;
-          found = Finding.Refused;
+          fate = (Some Fate.Refused);
+          found = (Some Finding.Refused);
           is = rw (conf, found, e);
           phase = rw e tt;
           says = rw e;

@@ -5,13 +5,16 @@ use mathlib.Core.Path.{◌≡◌, refl, ◌∙◌}
 use mathlib.Core.Bool.{Bool, true, false}
 use native.Mathlib.Omega.{arith}
 use lib.Dec.{eqb}
+use Rattle.std.proofs.Common.{Some}
 use Rattle.words.specs.Link.{configured_of}
 use Rattle.words.specs.Tick.{age_of}
 use Rattle.words.specs.Control.{quality_of}
+use Rattle.words.specs.Refusal.{refuse}
+use Rattle.words.specs.declared.refusal.Refusal.TheVariants.{NothingAsked}
 use Rattle.words.specs.declared.link.Link.{Link}
 use Rattle.words.proofs.Ranges.{by}
 use Rattle.dist_controller.specs.State.{with_finding}
-use Rattle.dist_controller.specs.Told.{refuse, told_of, overdue_of, reset_sent_of, not_shown, reset_read_of, told_reset_reading, told_cut_reading}
+use Rattle.dist_controller.specs.Told.{told_of, overdue_of, reset_sent_of, not_shown, reset_read_of, told_reset_reading, told_cut_reading}
 use Rattle.dist_controller.specs.declared.state.Finding.{Finding}
 use Rattle.dist_controller.specs.declared.state.Controller.{Controller}
 use Rattle.promises.specs.Run.{ok}
@@ -43,7 +46,7 @@ module _ (link : Link) (h : Hidden) (wide : ℕ) (a : Bool) (n s now since cost 
       record { size = h.size; quality = h.quality; fate = h.fate; found = h.found; is = rw conf; phase = (e, o); says = quiet h.fate a; count = low }
   spoke_cut sp w m_read e o i =
       let found = finding_else (ctl (reset_first m_read)) wide conf sp w in
-      record { size = h.size; quality = h.quality; fate = h.fate; found = found_else sp; is = rw (conf, found); phase = (e, o); says = quiet h.fate a; count = low }
+      record { size = h.size; quality = h.quality; fate = h.fate; found = Some (found_else sp); is = rw (conf, found); phase = (e, o); says = quiet h.fate a; count = low }
 
   -- ---- the Reset descriptor
 
@@ -69,7 +72,7 @@ module _ (link : Link) (h : Hidden) (wide : ℕ) (a : Bool) (n s now since cost 
         size = h.size;
         quality = h.quality;
         fate = h.fate;
-        found = f;
+        found = Some f;
         is = rw (conf, found, again (with_finding f (ctl reading_reset)), g, stays y (tx a n s reading_reset), z);
         phase = rw (g, stays y (tx a n s reading_reset), z) o;
         says = rw (g, stays y (tx a n s reading_reset), says, z) (quiet h.fate a);
@@ -79,7 +82,7 @@ module _ (link : Link) (h : Hidden) (wide : ℕ) (a : Bool) (n s now since cost 
         size = h.size;
         quality = h.quality;
         fate = h.fate;
-        found = f;
+        found = Some f;
         is = rw (conf, found, again (with_finding f (ctl reading_reset)), g, stays y (tx a n s reading_reset), z);
         phase = rw (g, stays y (tx a n s reading_reset), z) (e, o);
         says = rw (g, stays y (tx a n s reading_reset), says, z) (quiet h.fate a);
@@ -94,7 +97,7 @@ module _ (link : Link) (h : Hidden) (wide : ℕ) (a : Bool) (n s now since cost 
         size = h.size;
         quality = h.quality;
         fate = h.fate;
-        found = Finding.Reset;
+        found = (Some Finding.Reset);
         is = rw (conf, found);
         phase = o;
         says = rw (shut h.fate o, e);
@@ -120,7 +123,7 @@ module _ (link : Link) (h : Hidden) (wide : ℕ) (a : Bool) (n s now since cost 
 
   -- nothing is asked for: 18
   abbrev pub Heard : Asked → Spoken → Phase → Type 0
-  Heard unasked sp p = told_of (ctl p) (outcome_for sp) (words_for link wide sp) ≡ refuse 18 (ctl p)
+  Heard unasked sp p = told_of (ctl p) (outcome_for sp) (words_for link wide sp) ≡ refuse NothingAsked (ctl p)
   Heard (asked m) sp p = Here sp p
 
   pub heard : (p : Phase) (sp : Spoken) → SpokenIs link wide sp → PhaseIs link h p a n cost → Heard (asked_by p n) sp p

@@ -7,23 +7,25 @@ use mathlib.Core.List.{List}
 use native.Mathlib.Omega.{arith}
 use lib.Dec.{ltb}
 use lib.ListN.{length}
+use Rattle.std.proofs.Common.{Ok, Err, None}
 use borrow.Author.Tests.{ltb-false}
 use Rattle.words.specs.Link.{in_ranges, configure_of, configured_of, message_store_of, block_store_of}
-use Rattle.words.specs.declared.answer.Answer.{Answer}
-use Rattle.words.specs.declared.answer.Answer.TheVariants.{Accepted, Refused}
+use Rattle.words.specs.Refusal.{Answer, accept, refuse}
+use Rattle.words.specs.declared.refusal.Refusal.{Refusal}
+use Rattle.words.specs.declared.refusal.Refusal.TheVariants.{BadConfiguration}
+use Rattle.words.specs.declared.refusal.Stepped.{Stepped}
+use Rattle.words.specs.declared.link.Settings.{Settings}
 use Rattle.words.specs.declared.control.Quality.TheVariants.{BestEffort}
 use Rattle.words.specs.declared.link.Link.{Link}
 use Rattle.words.proofs.Ranges.{by}
-use Rattle.words.specs.declared.link.Configuring.TheVariants as Configuring
 use Rattle.dist_controller.specs.Report as Controller
 use Rattle.dist_controller.specs.State as ControllerState
-use Rattle.dist_controller.specs.Told as ControllerTold
-use Rattle.dist_controller.specs.declared.told.Stepped as ControllerStepped
+use Rattle.dist_controller.specs.declared.state.Controller.{Controller as Sender}
 use Rattle.dist_controller.specs.declared.state.Fate.TheVariants as Fate
 use Rattle.dist_controller.specs.declared.state.Finding.TheVariants as Finding
 use Rattle.dist_terminal.specs.Calls as Terminal
 use Rattle.dist_terminal.specs.State as TerminalState
-use Rattle.dist_terminal.specs.declared.state.Stepped as TerminalStepped
+use Rattle.dist_terminal.specs.declared.state.Terminal.{Terminal as Receiver}
 use Rattle.dist_pair.specs.State.{unconfigured}
 use Rattle.dist_pair.specs.Events as Events
 use Rattle.dist_promises.specs.Distribution.{distribution}
@@ -33,81 +35,88 @@ use Rattle.dist_promises.proofs.Lawfully.{lawful}
 use Rattle.dist_promises.proofs.Model.{State, model}
 use Rattle.dist_promises.proofs.Real.{Hidden, real, Ground, Stands}
 
-not_refused : {A : Type 0} (n : ℕ) → Refused n ≡ Accepted → A
-not_refused n e = absurd (let z : ◌≡◌ {A = ℕ} 0 1 = cc in omega arith)
+not_refused : {A : Type 0} (r : Refusal) → ◌≡◌ {A = Answer} (Err r) (Ok tt) → A
+not_refused r e = absurd (let z : ◌≡◌ {A = ℕ} 0 1 = cc in omega arith)
 
 neither : (a b : Bool) → (a || b) ≡ false → (a ≡ false) × (b ≡ false)
 neither false b e = (refl, e)
 neither true b e = absurd (let z : ◌≡◌ {A = ℕ} 0 1 = cc in omega arith)
 
+abbrev pub settings : ℕ → ℕ → ℕ → ℕ → ℕ → Settings
+settings address mode subaddress largest window =
+    record { address = address; mode = mode; subaddress = subaddress; largest = largest; window = window }
+
 module _ (address mode subaddress largest window : ℕ) (store places hand : List ℕ) where
+  abbrev given : Settings
+  given = settings address mode subaddress largest window
+
   abbrev pub link : Link
   link = record { address = address; mode = mode; subaddress = subaddress; largest = largest; window = window }
 
   abbrev answer : Answer
-  answer = (Events.configure_of unconfigured address mode subaddress largest window (length store) (length places) (length hand)).answer
+  answer = (Events.configure_of unconfigured given (length store) (length places) (length hand)).answer
 
   record Configured : Type 0 where
-    ranges : in_ranges address mode subaddress largest window ≡ true
+    ranges : in_ranges given ≡ true
     blocks : ltb (length store) largest ≡ false
     fit : Terminal.unfit_of link (length places) (length hand) ≡ false
 
-  in_ranges_lem : in_ranges address mode subaddress largest window ≡ true → configure_of address mode subaddress largest window ≡ Configuring.Configured link
+  in_ranges_lem : in_ranges given ≡ true → configure_of given ≡ Ok link
   unfolding configure_of
   in_ranges_lem r = rw r
 
-  out_of_ranges : in_ranges address mode subaddress largest window ≡ false → configure_of address mode subaddress largest window ≡ Configuring.Refused 20
+  out_of_ranges : in_ranges given ≡ false → configure_of given ≡ Err BadConfiguration
   unfolding configure_of
   out_of_ranges r = rw r
 
-  abbrev controller : ControllerStepped.Stepped
-  controller = Controller.configuring_of unconfigured.controller address mode subaddress largest window (length store)
+  abbrev controller : Stepped Sender (Unit {0})
+  controller = Controller.configuring_of unconfigured.controller given (length store)
 
-  abbrev terminal : TerminalStepped.Stepped
-  terminal = Terminal.configuring_of unconfigured.terminal address mode subaddress largest window (length places) (length hand)
+  abbrev terminal : Stepped Receiver (Unit {0})
+  terminal = Terminal.configuring_of unconfigured.terminal given (length places) (length hand)
 
   -- either end alone
-  controller_out : in_ranges address mode subaddress largest window ≡ false → controller ≡ ControllerTold.refuse 20 unconfigured.controller
+  controller_out : in_ranges given ≡ false → controller ≡ refuse BadConfiguration unconfigured.controller
   unfolding Controller.configuring_of
   controller_out r = rw (out_of_ranges r)
 
-  controller_short : in_ranges address mode subaddress largest window ≡ true → ltb (length store) largest ≡ true → controller ≡ ControllerTold.refuse 20 unconfigured.controller
+  controller_short : in_ranges given ≡ true → ltb (length store) largest ≡ true → controller ≡ refuse BadConfiguration unconfigured.controller
   unfolding Controller.configuring_of block_store_of
   controller_short r b = rw (in_ranges_lem r, b)
 
-  controller_fresh : in_ranges address mode subaddress largest window ≡ true → ltb (length store) largest ≡ false → controller ≡ ControllerTold.accept (ControllerState.fresh_of link 0)
+  controller_fresh : in_ranges given ≡ true → ltb (length store) largest ≡ false → controller ≡ accept (ControllerState.fresh_of link 0)
   unfolding Controller.configuring_of block_store_of
   controller_fresh r b = rw (in_ranges_lem r, b)
 
-  terminal_short : in_ranges address mode subaddress largest window ≡ true → Terminal.unfit_of link (length places) (length hand) ≡ true
-      → terminal ≡ TerminalState.refuse 20 unconfigured.terminal
+  terminal_short : in_ranges given ≡ true → Terminal.unfit_of link (length places) (length hand) ≡ true
+      → terminal ≡ refuse BadConfiguration unconfigured.terminal
   unfolding Terminal.configuring_of
   terminal_short r u = rw (in_ranges_lem r, u)
 
-  terminal_fresh : in_ranges address mode subaddress largest window ≡ true → Terminal.unfit_of link (length places) (length hand) ≡ false
-      → terminal ≡ TerminalState.accept (TerminalState.fresh_of link)
+  terminal_fresh : in_ranges given ≡ true → Terminal.unfit_of link (length places) (length hand) ≡ false
+      → terminal ≡ accept (TerminalState.fresh_of link)
   unfolding Terminal.configuring_of
   terminal_fresh r u = rw (in_ranges_lem r, u)
 
-  refused_first : controller ≡ ControllerTold.refuse 20 unconfigured.controller → answer ≡ Refused 20
+  refused_first : controller ≡ refuse BadConfiguration unconfigured.controller → answer ≡ Err BadConfiguration
   unfolding Events.configure_of
-  refused_first e = ap (λ (s : ControllerStepped.Stepped). (Events.configure_in s.answer s terminal unconfigured).answer) e
+  refused_first e = ap (λ (s : Stepped Sender (Unit {0})). (Events.configure_in s.answer s.state terminal unconfigured).answer) e
 
-  refused_second : controller ≡ ControllerTold.accept (ControllerState.fresh_of link 0) → terminal ≡ TerminalState.refuse 20 unconfigured.terminal → answer ≡ Refused 20
+  refused_second : controller ≡ accept (ControllerState.fresh_of link 0) → terminal ≡ refuse BadConfiguration unconfigured.terminal → answer ≡ Err BadConfiguration
   unfolding Events.configure_of
-  refused_second e f = λ i. (Events.configure_in (e i).answer (e i) (f i) unconfigured).answer
+  refused_second e f = λ i. (Events.configure_in (e i).answer (e i).state (f i) unconfigured).answer
 
-  configured : answer ≡ Accepted → Configured
+  configured : answer ≡ Ok tt → Configured
   configured e =
-      by (in_ranges address mode subaddress largest window)
+      by (in_ranges given)
       (λ r. by (ltb (length store) largest)
-      (λ b. not_refused 20 (sym (refused_first (controller_short r b)) ∙ e))
+      (λ b. not_refused _ (sym (refused_first (controller_short r b)) ∙ e))
       (λ b. by (Terminal.unfit_of link (length places) (length hand))
-      (λ u. not_refused 20 (sym (refused_second (controller_fresh r b) (terminal_short r u)) ∙ e))
+      (λ u. not_refused _ (sym (refused_second (controller_fresh r b) (terminal_short r u)) ∙ e))
       (λ u. record { ranges = r; blocks = b; fit = u })))
-      (λ r. not_refused 20 (sym (refused_first (controller_out r)) ∙ e))
+      (λ r. not_refused _ (sym (refused_first (controller_out r)) ∙ e))
 
-  module _ (accepted : answer ≡ Accepted) where
+  module _ (accepted : answer ≡ Ok tt) where
     abbrev c : Configured
     c = configured accepted
 
@@ -133,7 +142,7 @@ module _ (address mode subaddress largest window : ℕ) (store places hand : Lis
 
     abbrev hidden : Hidden
     hidden =
-        record { store = store; hand = hand; size = 0; quality = BestEffort; fate = Fate.None; found = Finding.None; shown = 0; caught = 0 }
+        record { store = store; hand = hand; size = 0; quality = BestEffort; fate = None; found = None; shown = 0; caught = 0 }
 
     abbrev begin : State Received
     begin = (model (parts link places) largest window).fresh

@@ -5,7 +5,7 @@ use mathlib.Core.Path.{◌≡◌, refl, ap, sym, ◌∙◌}
 use mathlib.Core.Bool.{Bool}
 use mathlib.Core.List.{List}
 use lib.ListN.{length}
-use Rattle.words.specs.declared.answer.Answer.TheVariants.{Accepted}
+use Rattle.std.proofs.Common.{Ok}
 use Rattle.words.specs.declared.link.Link.{Link}
 use Rattle.words.proofs.Ranges.{link_ranges}
 use Rattle.dist_controller.specs.Asked.{asked_of}
@@ -30,7 +30,7 @@ use Rattle.dist_promises.proofs.SameSubmit.{same_submit, says_submit}
 use Rattle.dist_promises.proofs.SameTake.{same_take, says_take}
 use Rattle.dist_promises.proofs.SameArrive.{same_arrive}
 use Rattle.dist_promises.proofs.SameTold.{same_done, same_no_reply, says_done, says_no_reply}
-use Rattle.dist_promises.proofs.Starts.{link, ground, room, fresh_stands}
+use Rattle.dist_promises.proofs.Starts.{settings, link, ground, room, fresh_stands}
 use Rattle.dist_promises.proofs.Promised.{keeps}
 
 flight_same : (link : Link) (n : ℕ) (f : Flight) → Bus.has_arrived (flight_of link n f) ≡ arrived_yet f
@@ -94,7 +94,7 @@ module _ (link : Link) (lent : List ℕ) (G : Ground link lent) where
       ∙ gone_same s.tx.phase link h s.tx.accepted s.tx.count s.meter.cost i.facts.phase
 
 module _ (address mode subaddress largest window : ℕ) (store places hand : List ℕ)
-    (accepted : (Events.configure_of unconfigured address mode subaddress largest window (length store) (length places) (length hand)).answer ≡ Accepted) where
+    (accepted : (Events.configure_of unconfigured (settings address mode subaddress largest window) (length store) (length places) (length hand)).answer ≡ Ok tt) where
   abbrev ours : Machine
   ours = distribution address mode subaddress largest window store places hand
 

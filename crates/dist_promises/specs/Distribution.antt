@@ -1,24 +1,24 @@
 -- Distribution as a machine of demand 3 (crate promises): each event is the pair's own step, on both ends and their lent stores.
 -- Assumes nothing.
-use Rattle.std.specs.Prelude.{ℕ, Bool, true, false, cond, not, ◌&&◌, List, eqb, length, take}
+use Rattle.std.specs.Prelude.{ℕ, Bool, true, false, cond, not, ◌&&◌, Option, Some, None, Result, Ok, Err, List, eqb, length, take}
 use Rattle.words.specs.Control.{quality_of}
-use Rattle.words.specs.declared.answer.Answer as Words
-use Rattle.words.specs.declared.answer.Answer.TheVariants as WordsAnswer
+use Rattle.words.specs.Refusal as Words
+use Rattle.words.specs.declared.refusal.Refusal.{Refusal}
+use Rattle.words.specs.declared.refusal.Stepped.{Stepped}
+use Rattle.words.specs.declared.link.Settings.{Settings}
 use Rattle.stores.specs.Marks.{marked_of}
 use Rattle.dist_controller.specs.Asked.{asked_of}
 use Rattle.dist_controller.specs.Report.{report_of}
-use Rattle.dist_controller.specs.declared.asked.Asked as Controller
-use Rattle.dist_controller.specs.declared.asked.Asked.TheVariants.{Nothing, Receive, Transmit}
+use Rattle.dist_controller.specs.declared.asked.Message.{Message}
+use Rattle.dist_controller.specs.declared.asked.Message.TheVariants.{Receive, Transmit}
 use Rattle.dist_controller.specs.declared.state.Fate.{Fate}
 use Rattle.dist_controller.specs.declared.report.Acceptance.{Acceptance}
-use Rattle.dist_controller.specs.declared.report.Reported.{Reported}
+use Rattle.dist_controller.specs.declared.report.Report.{Report}
 use Rattle.dist_terminal.specs.declared.state.Terminal.{Terminal}
-use Rattle.dist_terminal.specs.declared.take.Take.{Take}
 use Rattle.dist_pair.specs.State.{unconfigured}
 use Rattle.dist_pair.specs.Events as Events
 use Rattle.dist_pair.specs.Bus as Bus
 use Rattle.dist_pair.specs.declared.state.Pair.{Pair}
-use Rattle.dist_pair.specs.declared.state.Stepped.{Stepped}
 use Rattle.promises.specs.Run.{Event, submit, reset, frame, arrive, told_done, told_no_reply, restart_sender, restart_receiver, deliver}
 use Rattle.promises.specs.Run.{Answer, denied, ok, accepted, confirmed, failed, gave, refused, unconfirmed, abandoned, Asks, nothing, sends, reads, Machine}
 
@@ -30,7 +30,7 @@ pub record Ends : Type 0 where
   pub hand : List ℕ
 
 -- the pair and its answer
-abbrev pub stepped_of : Event → Ends → Stepped
+abbrev pub stepped_of : Event → Ends → Stepped Pair (Unit {0})
 stepped_of (submit b) x = Events.submit_of x.pair (quality_of b.verified) b.block (length x.store)
 stepped_of reset x = Events.reset_of x.pair
 stepped_of frame x = Events.frame_of x.pair
@@ -40,7 +40,7 @@ stepped_of told_no_reply x = Bus.told_no_reply x.pair
 stepped_of restart_sender x = Events.controller_restarted x.pair
 stepped_of restart_receiver x = Events.terminal_restarted x.pair (length x.places)
 stepped_of (deliver buffer) x =
-    record { pair = (Events.take_of x.pair (length x.hand) (length buffer)).pair; answer = WordsAnswer.Accepted }
+    Words.accept (Events.take_of x.pair (length x.hand) (length buffer)).state
 
 abbrev pub store_of : Event → Ends → List ℕ
 store_of (submit b) x = Events.block_after x.pair b.block x.store
@@ -76,59 +76,59 @@ hand_of restart_receiver x = x.hand
 hand_of (deliver buffer) x = x.hand
 
 abbrev pub step_of : Event → Ends → Ends
-step_of e x = record { pair = (stepped_of e x).pair; store = store_of e x; places = places_of e x; hand = hand_of e x }
+step_of e x = record { pair = (stepped_of e x).state; store = store_of e x; places = places_of e x; hand = hand_of e x }
 
 -- ---- what is seen: the answer, and how the controller's report changed
 
-abbrev pub fate_of : Reported → Fate
-fate_of (Reported.Refused n) = Fate.None
-fate_of (Reported.Report r) = r.fate
+abbrev pub fate_of : Result Report Refusal → Option Fate
+fate_of (Err n) = None
+fate_of (Ok r) = r.fate
 
-abbrev pub is_open : Fate → Bool
-is_open Fate.None = false
-is_open Fate.Open = true
-is_open Fate.Confirmed = false
-is_open Fate.Refused = false
-is_open Fate.Unconfirmed = false
-is_open Fate.Abandoned = false
+abbrev pub is_open : Option Fate → Bool
+is_open None = false
+is_open (Some Fate.Open) = true
+is_open (Some Fate.Confirmed) = false
+is_open (Some Fate.Refused) = false
+is_open (Some Fate.Unconfirmed) = false
+is_open (Some Fate.Abandoned) = false
 
 abbrev pub is_accepted : Acceptance → Bool
 is_accepted Acceptance.NotAccepted = false
 is_accepted Acceptance.Pending = false
 is_accepted Acceptance.Accepted = true
 
-abbrev pub accepted_of : Reported → Bool
-accepted_of (Reported.Refused n) = false
-accepted_of (Reported.Report r) = is_accepted r.acceptance
+abbrev pub accepted_of : Result Report Refusal → Bool
+accepted_of (Err n) = false
+accepted_of (Ok r) = is_accepted r.acceptance
 
-abbrev pub messages_of : Reported → ℕ
-messages_of (Reported.Refused n) = 0
-messages_of (Reported.Report r) = r.messages
+abbrev pub messages_of : Result Report Refusal → ℕ
+messages_of (Err n) = 0
+messages_of (Ok r) = r.messages
 
 -- the fate of a transfer that was open, and else what there is to tell
-abbrev pub end_of : Fate → Answer → Answer
-end_of Fate.None rest = rest
-end_of Fate.Open rest = rest
-end_of Fate.Confirmed rest = confirmed
-end_of Fate.Refused rest = failed refused
-end_of Fate.Unconfirmed rest = failed unconfirmed
-end_of Fate.Abandoned rest = failed abandoned
+abbrev pub end_of : Option Fate → Answer → Answer
+end_of None rest = rest
+end_of (Some Fate.Open) rest = rest
+end_of (Some Fate.Confirmed) rest = confirmed
+end_of (Some Fate.Refused) rest = failed refused
+end_of (Some Fate.Unconfirmed) rest = failed unconfirmed
+end_of (Some Fate.Abandoned) rest = failed abandoned
 
-abbrev pub news_of : Reported → Reported → Answer
+abbrev pub news_of : Result Report Refusal → Result Report Refusal → Answer
 news_of before later =
     let rest : Answer = cond (accepted_of later && not (accepted_of before)) accepted ok in
     cond (is_open (fate_of before)) (end_of (fate_of later) rest) rest
 
-abbrev pub answer_of : Words.Answer → Reported → Reported → Answer
-answer_of (WordsAnswer.Refused n) before later = denied
-answer_of WordsAnswer.Accepted before later = news_of before later
+abbrev pub answer_of : Words.Answer → Result Report Refusal → Result Report Refusal → Answer
+answer_of (Err n) before later = denied
+answer_of (Ok u) before later = news_of before later
 
-abbrev pub gave_of : Take → List ℕ → Answer
-gave_of (Take.Refused n) buffer = denied
-gave_of (Take.Delivered size) buffer = gave (take size buffer)
+abbrev pub gave_of : Result ℕ Refusal → List ℕ → Answer
+gave_of (Err n) buffer = denied
+gave_of (Ok size) buffer = gave (take size buffer)
 
 abbrev pub called_of : Event → Ends → Answer
-called_of e x = answer_of (stepped_of e x).answer (report_of x.pair.controller) (report_of (stepped_of e x).pair.controller)
+called_of e x = answer_of (stepped_of e x).answer (report_of x.pair.controller) (report_of (stepped_of e x).state.controller)
 
 -- an arrival is no call: what the terminal answers is its own affair
 abbrev pub says_of : Event → Ends → Answer
@@ -141,28 +141,37 @@ says_of told_no_reply x = called_of told_no_reply x
 says_of restart_sender x = called_of restart_sender x
 says_of restart_receiver x = called_of restart_receiver x
 says_of (deliver buffer) x =
-    gave_of (Events.take_of x.pair (length x.hand) (length buffer)).take (Events.buffer_after x.pair x.hand buffer)
+    gave_of (Events.take_of x.pair (length x.hand) (length buffer)).answer (Events.buffer_after x.pair x.hand buffer)
 
-abbrev pub asking_of : Controller.Asked → Bool → Asks
-asking_of Nothing arrived = nothing
-asking_of (Receive subaddress words) arrived = sends arrived
-asking_of (Transmit subaddress words) arrived = reads arrived
+abbrev pub asking_of : Option Message → Bool → Asks
+asking_of None arrived = nothing
+asking_of (Some (Receive subaddress words)) arrived = sends arrived
+asking_of (Some (Transmit subaddress words)) arrived = reads arrived
 
 -- marked subaddresses in mode 0, words received in mode 1
 abbrev pub parts_of : Terminal → ℕ
 parts_of t = cond (eqb t.link.mode 0) (marked_of t.marks.places) t.received
 
 -- both ends of a link configured with these numbers and lent these stores
+abbrev pub configured : Settings → List ℕ → List ℕ → List ℕ → Ends
+configured settings store places hand =
+    record {
+      pair = (Events.configure_of unconfigured settings (length store) (length places) (length hand)).state;
+      store = store;
+      places = Events.places_configured unconfigured settings (length store) places (length hand);
+      hand = hand;
+    }
+
 abbrev pub distribution : ℕ → ℕ → ℕ → ℕ → ℕ → List ℕ → List ℕ → List ℕ → Machine
 distribution address mode subaddress largest window store places hand =
     record {
       State = Ends;
-      fresh = record {
-        pair = (Events.configure_of unconfigured address mode subaddress largest window (length store) (length places) (length hand)).pair;
-        store = store;
-        places = Events.places_configured unconfigured address mode subaddress largest window (length store) places (length hand);
-        hand = hand;
-      };
+      fresh =
+          configured
+          (record { address = address; mode = mode; subaddress = subaddress; largest = largest; window = window })
+          store
+          places
+          hand;
       step = step_of;
       says = says_of;
       asks = λ x. asking_of (asked_of x.pair.controller) (Bus.has_arrived x.pair.flight);

@@ -1,4 +1,4 @@
+pub mod Ready
 pub mod Arriving
 pub mod Lengths
 pub mod Filling
-pub mod Ready

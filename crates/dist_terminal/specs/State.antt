@@ -1,23 +1,19 @@
 -- What the terminal keeps of its link (document 01, "Distribution"), and the changes that its events are made of.
 -- Assumes nothing.
-use Rattle.std.specs.Prelude.{ℕ, true, false, replicate}
+use Rattle.std.specs.Prelude.{ℕ, true, false, Option, None, replicate}
 use Rattle.words.specs.Count.{distribution_count}
 use Rattle.words.specs.Control.{reset_words}
-use Rattle.words.specs.declared.answer.Answer.TheVariants as Answer
 use Rattle.words.specs.declared.control.Words.{Words}
 use Rattle.words.specs.declared.count.DistributionCount.{DistributionCount}
 use Rattle.words.specs.declared.link.Link.{Link}
-use Rattle.dist_terminal.specs.declared.state.Hand.{Hand}
-use Rattle.dist_terminal.specs.declared.state.Hand.TheVariants.{Empty}
+use Rattle.words.specs.declared.refusal.Stepped.{Stepped}
+use Rattle.dist_terminal.specs.declared.state.Held.{Held}
 use Rattle.dist_terminal.specs.declared.state.Marks.{Marks}
 use Rattle.dist_terminal.specs.declared.state.Terminal.{Terminal}
-use Rattle.dist_terminal.specs.declared.state.Stepped.{Stepped}
 
-abbrev pub accept : Terminal → Stepped
-accept t = record { terminal = t; answer = Answer.Accepted }
-
-abbrev pub refuse : ℕ → Terminal → Stepped
-refuse n t = record { terminal = t; answer = Answer.Refused n }
+-- a terminal after an event, and the event's answer
+abbrev pub Step : Type 0
+Step = Stepped Terminal (Unit {0})
 
 abbrev pub no_marks : Marks
 no_marks = record { places = 0; words = replicate 16 0 }
@@ -33,7 +29,7 @@ fresh_of link =
       link = link;
       seen = false;
       handled = distribution_count 0;
-      hand = Empty;
+      hand = None;
       shown = nothing_yet;
       marks = no_marks;
       received = 0;
@@ -50,7 +46,7 @@ unmarked marks = record { places = 0; words = marks.words }
 abbrev pub cleared_of : Terminal → Terminal
 cleared_of t = with_marks (unmarked t.marks) 0 t
 
-abbrev pub with_hand : DistributionCount → Hand → Words → Terminal → Terminal
+abbrev pub with_hand : DistributionCount → Option Held → Words → Terminal → Terminal
 with_hand handled hand shown t =
     record { link = t.link; seen = t.seen; handled = handled; hand = hand; shown = shown; marks = t.marks; received = t.received }
 
@@ -61,7 +57,7 @@ reset_of t =
       link = t.link;
       seen = true;
       handled = distribution_count 0;
-      hand = Empty;
+      hand = None;
       shown = reset_words;
       marks = unmarked t.marks;
       received = 0;

@@ -4,29 +4,29 @@ ghost use Rattle.words.specs.Link.{message_store_of, no_link};
 ghost use Rattle.dist_terminal.specs.State.{fresh_of};
 ghost use Rattle.dist_terminal.specs.Calls.{emptied, restart_of, store_restarted, unfit_of, configuring_of, store_configured, receive_of, store_received, hand_received};
 
-use crate::data::{data, store_short};
-use crate::descriptor::{descriptor, is_short};
-use crate::state::{Stepped, Terminal, accept, fresh, refuse};
-use words::link::{Configuring, Link};
+use crate::data::data;
+use crate::descriptor::{descriptor, stores_short};
+use crate::state::{Terminal, fresh};
+use words::link::{Link, Settings, block_store, is_short, message_store};
+use words::refusal::{Refusal, Stepped, accept, refuse};
 
 // The places are zero.
-#[tactic(auto, unfolding(crate::specs::Calls::emptied))]
+#[tactic(auto, using(crate::proofs::Filling::places_zeroed))]
 fn empty_places(link: Link, store: &mut [u8])
     requires { message_store_of link ≤ length store.old }
     ensures { store.new ≡ emptied link store.old }
 {
-    let n = words::link::message_store(link);
-    stores::copies::zero_bytes(&mut store[0..n]);
+    stores::copies::zero_bytes(&mut store[..message_store(link)]);
 }
 
 // A restart keeps the configuration; all else is fresh.
-#[tactic(auto, unfolding(crate::specs::Calls::restart_of, crate::specs::Calls::store_restarted))]
-pub fn restart(t: Terminal, store: &mut [u8]) -> Stepped
+#[tactic(auto, using(crate::proofs::Ready::restarts), unfolding(crate::specs::Calls::restart_of, crate::specs::Calls::store_restarted, crate::specs::Data::store_short, words::specs::Link::short_of))]
+pub fn restart(t: Terminal, store: &mut [u8]) -> Stepped<Terminal, ()>
     ensures result { result ≡ restart_of t (length store.old) }
     ensures bytes { store.new ≡ store_restarted t store.old }
 {
-    if store_short(t.link, store.len()) {
-        return refuse(1, t);
+    if is_short(t.link, message_store(t.link), store.len()) {
+        return refuse(Refusal::NotReady, t);
     }
     empty_places(t.link, store);
     accept(fresh(t.link))
@@ -37,10 +37,7 @@ pub fn restart(t: Terminal, store: &mut [u8]) -> Stepped
 fn unfit(link: Link, store: usize, hand: usize) -> bool
     ensures { result ≡ unfit_of link store hand }
 {
-    if store < words::link::message_store(link) {
-        return true;
-    }
-    hand < words::link::block_store(link)
+    store < message_store(link) || hand < block_store(link)
 }
 
 // A terminal whose link is not set up.
@@ -51,31 +48,25 @@ pub fn unconfigured() -> Terminal
 }
 
 // A new run, or refusal 20, which leaves an earlier run as it was: a number outside its range, or a store too short.
-#[tactic(auto, unfolding(crate::specs::Calls::configuring_of, crate::specs::Calls::store_configured))]
+#[tactic(auto, using(crate::proofs::Ready::fits), unfolding(crate::specs::Calls::configuring_of, crate::specs::Calls::store_configured))]
 pub fn configure(
     t: Terminal,
-    address: u32,
-    mode: u32,
-    subaddress: u32,
-    largest: u32,
-    window: u32,
+    settings: Settings,
     store: &mut [u8],
     hand: usize,
-) -> Stepped
-    ensures result { result ≡ configuring_of t address mode subaddress largest window (length store.old) hand }
-    ensures bytes { store.new ≡ store_configured address mode subaddress largest window store.old hand }
+) -> Stepped<Terminal, ()>
+    ensures result { result ≡ configuring_of t settings (length store.old) hand }
+    ensures bytes { store.new ≡ store_configured settings store.old hand }
 {
-    let configuring = words::link::configure(address, mode, subaddress, largest, window);
-    match configuring {
-        Configuring::Refused(n) => refuse(n, t),
-        Configuring::Configured(link) => {
-            if unfit(link, store.len(), hand) {
-                return refuse(20, t);
-            }
-            empty_places(link, store);
-            accept(fresh(link))
-        }
+    let link = match words::link::configure(settings) {
+        Err(refusal) => return refuse(refusal, t),
+        Ok(link) => link,
+    };
+    if unfit(link, store.len(), hand) {
+        return refuse(Refusal::BadConfiguration, t);
     }
+    empty_places(link, store);
+    accept(fresh(link))
 }
 
 // A message to a receive subaddress: 27 has the descriptor, others data.
@@ -86,13 +77,13 @@ pub fn receive(
     words: &[u16],
     store: &mut [u8],
     hand: &mut [u8],
-) -> Stepped
+) -> Stepped<Terminal, ()>
     ensures result { result ≡ receive_of t subaddress words.now (length store.old) (length hand.old) }
     ensures bytes { (store.new ≡ store_received t subaddress words.now store.old (length hand.old))
         × (hand.new ≡ hand_received t subaddress words.now store.old hand.old) }
 {
-    if is_short(t.link, store.len(), hand.len()) {
-        return refuse(1, t);
+    if stores_short(t.link, store.len(), hand.len()) {
+        return refuse(Refusal::NotReady, t);
     }
     if subaddress == 27 {
         return descriptor(t, words, store, hand);

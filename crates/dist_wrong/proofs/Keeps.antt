@@ -2,7 +2,8 @@
 -- Assumes nothing.
 use mathlib.Core.Path.{◌≡◌, refl, subst, sym}
 use lib.ListN.{replicate}
-use Rattle.words.specs.declared.answer.Answer.TheVariants.{Accepted}
+use Rattle.std.proofs.Common.{Ok}
+use Rattle.dist_promises.proofs.Starts.{settings}
 use Rattle.dist_pair.specs.State.{unconfigured}
 use Rattle.dist_pair.specs.Events as Events
 use Rattle.dist_controller.specs.Report as Controller
@@ -14,7 +15,7 @@ use Rattle.dist_wrong.specs.Made.{real, in_mode0}
 use Rattle.dist_wrong.proofs.Open.{opened}
 use Rattle.dist_wrong.proofs.Right.{right}
 
-configured : (Events.configure_of unconfigured 5 0 11 1024 2 1024 1024 1024).answer ≡ Accepted
+configured : (Events.configure_of unconfigured (settings 5 0 11 1024 2) 1024 1024 1024).answer ≡ Ok tt
 unfolding opened Events.configure_of Controller.configuring_of Link.configure_of Terminal.configuring_of Terminal.unfit_of
 configured = refl
 

@@ -38,7 +38,7 @@ unfolding Link.mode_allows Link.in_ranges Link.configured_of Link.message_store_
 links = tt
 
 unfoldable pub reading : Unit {0}
-unfolding Reading.size_of Reading.plain_of Reading.control_of Reading.read_of Reading.over_of Reading.sized_of Reading.read_descriptor_of Reading.read_distribution_confirmation_of
+unfolding Reading.size_of Reading.plain_of Reading.control_of Reading.read_of Reading.over_of Reading.sized_of Reading.read_descriptor_of Reading.read_confirmation_of
 reading = tt
 
 unfoldable pub stores : Unit {0}

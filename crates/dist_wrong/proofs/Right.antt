@@ -5,18 +5,18 @@ use mathlib.Core.Path.{◌≡◌, refl}
 use mathlib.Core.Bool.{cond, not}
 use mathlib.Core.List.{List}
 use lib.ListN.{length}
+use Rattle.std.proofs.Common.{Option, None, Some, Ok, Err}
 use Rattle.words.specs.Link.{configured_of}
 use Rattle.words.specs.Control.{quality_of}
-use Rattle.words.specs.declared.answer.Answer.{Answer}
-use Rattle.words.specs.declared.answer.Answer.TheVariants.{Accepted, Refused}
+use Rattle.words.specs.Refusal.{Answer, refuse}
+use Rattle.words.specs.declared.refusal.Refusal.TheVariants.{NotReady, NothingAsked}
 use Rattle.words.specs.declared.control.Quality.{Quality}
 use Rattle.dist_controller.specs.Submit as Submit
 use Rattle.dist_controller.specs.Asked.{asked_of}
 use Rattle.dist_controller.specs.Report.{report_of}
 use Rattle.dist_controller.specs.declared.state.Controller.{Controller}
-use Rattle.dist_controller.specs.declared.asked.Asked.{Asked}
-use Rattle.dist_controller.specs.declared.asked.Asked.TheVariants.{Nothing, Receive, Transmit}
-use Rattle.dist_pair.specs.State.{refuse}
+use Rattle.dist_controller.specs.declared.asked.Message.{Message}
+use Rattle.dist_controller.specs.declared.asked.Message.TheVariants.{Receive, Transmit}
 use Rattle.dist_pair.specs.Events.{controller_stepped}
 use Rattle.dist_pair.specs.Bus as Bus
 use Rattle.dist_pair.specs.Bus.{lent_short, has_arrived}
@@ -29,21 +29,21 @@ use Rattle.dist_wrong.specs.Made.{real, made, submit_in, arrive_in, hand_in, don
 use Rattle.dist_wrong.proofs.Open.{opened}
 
 submit_same : (a : Answer) (c : Controller) (quality : Quality) (size : ℕ) → submit_in real a c quality size ≡ Submit.submit_in a c quality size
-submit_same Accepted c quality size = refl
-submit_same (Refused n) c quality size = refl
+submit_same (Ok u) c quality size = refl
+submit_same (Err r) c quality size = refl
 
-arrive_same : (a : Asked) (x : Ends)
+arrive_same : (a : Option Message) (x : Ends)
     → arrive_in real a x ≡ Bus.arrive_in a x.pair x.store (length x.places) (length x.hand)
 unfolding opened
-arrive_same Nothing x = refl
-arrive_same (Receive subaddress words) x = refl
-arrive_same (Transmit subaddress words) x = refl
+arrive_same None x = refl
+arrive_same (Some (Receive subaddress words)) x = refl
+arrive_same (Some (Transmit subaddress words)) x = refl
 
-hand_same : (a : Asked) (x : Ends) → hand_in real a x ≡ Bus.hand_in a x.pair x.store x.places x.hand
+hand_same : (a : Option Message) (x : Ends) → hand_in real a x ≡ Bus.hand_in a x.pair x.store x.places x.hand
 unfolding opened
-hand_same Nothing x = refl
-hand_same (Receive subaddress words) x = refl
-hand_same (Transmit subaddress words) x = refl
+hand_same None x = refl
+hand_same (Some (Receive subaddress words)) x = refl
+hand_same (Some (Transmit subaddress words)) x = refl
 
 done_same : (f : Flight) (p : Pair) → done_in real f p ≡ Bus.done_in f p
 unfolding opened
@@ -61,11 +61,11 @@ stepped_same (submit b) x = λ i.
 stepped_same reset x = refl
 stepped_same frame x = refl
 stepped_same arrive x = λ i.
-    cond (lent_short x.pair (length x.store) (length x.places) (length x.hand)) (refuse 1 x.pair)
-    (cond (has_arrived x.pair.flight) (refuse 18 x.pair)
+    cond (lent_short x.pair (length x.store) (length x.places) (length x.hand)) (refuse NotReady x.pair)
+    (cond (has_arrived x.pair.flight) (refuse NothingAsked x.pair)
     (arrive_same (asked_of x.pair.controller) x i))
 stepped_same told_done x = λ i.
-    cond (not (configured_of x.pair.controller.link)) (refuse 1 x.pair) (done_same x.pair.flight x.pair i)
+    cond (not (configured_of x.pair.controller.link)) (refuse NotReady x.pair) (done_same x.pair.flight x.pair i)
 stepped_same told_no_reply x = refl
 stepped_same restart_sender x = refl
 stepped_same restart_receiver x = refl
@@ -112,7 +112,7 @@ places_same (deliver buffer) x = refl
 
 called_same : (e : Event) (x : Ends) → called real e x ≡ called_of e x
 called_same e x = λ i.
-    answer_of (stepped_same e x i).answer (report_of x.pair.controller) (report_of (stepped_same e x i).pair.controller)
+    answer_of (stepped_same e x i).answer (report_of x.pair.controller) (report_of (stepped_same e x i).state.controller)
 
 says_same : (e : Event) (x : Ends) → says real e x ≡ says_of e x
 says_same (submit b) x = called_same (submit b) x
@@ -134,7 +134,7 @@ right address mode subaddress largest window block message held = λ i.
       State = Ends;
       fresh = (distribution address mode subaddress largest window block message held).fresh;
       step = λ e x. record {
-        pair = (stepped_same e x i).pair;
+        pair = (stepped_same e x i).state;
         store = stores_same e x i;
         places = places_same e x i;
         hand = hands_same e x i;

@@ -1,17 +1,19 @@
 -- Wrong machines: each has the real calls of both ends, but one thing is changed.
 -- Assumes nothing.
-use Rattle.std.specs.Prelude.{ℕ, zero, suc, ◌+◌, false, cond, not, List, eqb, leb, length}
+use Rattle.std.specs.Prelude.{ℕ, zero, suc, ◌+◌, false, cond, not, Option, Some, None, Result, Ok, Err, List, eqb, leb, length}
 use Rattle.words.specs.Control.{distribution_confirmation_words}
-use Rattle.words.specs.Count.{next_distribution}
+use Rattle.words.specs.Count.{distribution_count, next_distribution}
 use Rattle.words.specs.Cutting.{messages_of, size_answer_of}
 use Rattle.words.specs.Reading.{read_descriptor_of}
-use Rattle.words.specs.declared.answer.Answer.{Answer}
-use Rattle.words.specs.declared.answer.Answer.TheVariants.{Accepted, Refused}
+use Rattle.words.specs.Refusal.{Answer, accept, refuse}
+use Rattle.words.specs.declared.refusal.Refusal.{Refusal}
+use Rattle.words.specs.declared.refusal.Refusal.TheVariants.{NotReady, NoAcceptedReset, TransferOpen, TransfersSpent}
+use Rattle.words.specs.declared.refusal.Stepped.{Stepped}
 use Rattle.words.specs.declared.count.DistributionCount.{DistributionCount}
 use Rattle.words.specs.declared.control.Quality.{Quality}
 use Rattle.words.specs.declared.control.Quality.TheVariants.{BestEffort}
-use Rattle.words.specs.declared.control.Descriptor.{Descriptor}
-use Rattle.words.specs.declared.control.Descriptor.TheVariants as D
+use Rattle.words.specs.declared.control.Control.{Control}
+use Rattle.words.specs.declared.control.Control.TheVariants as D
 use Rattle.words.specs.declared.status.Outcome.{Outcome}
 use Rattle.words.specs.declared.status.Outcome.TheVariants.{Done}
 use Rattle.dist_controller.specs.State.{is_open, with_standing, with_transfer}
@@ -22,24 +24,21 @@ use Rattle.dist_controller.specs.declared.state.Controller.{Controller}
 use Rattle.dist_controller.specs.declared.state.Fate.TheVariants as Fate
 use Rattle.dist_controller.specs.declared.state.Phase.{Phase}
 use Rattle.dist_controller.specs.declared.state.Phase.TheVariants.{Idle, Sending, Waiting, Reading, Resetting, ResetWaiting, ResetReading, CutSending, CutReading, CutResetting}
-use Rattle.dist_controller.specs.declared.asked.Asked.{Asked}
-use Rattle.dist_controller.specs.declared.asked.Asked.TheVariants.{Nothing}
-use Rattle.dist_controller.specs.declared.report.Reported.{Reported}
-use Rattle.dist_terminal.specs.State.{accept, refuse, cleared_of, with_hand}
+use Rattle.dist_controller.specs.declared.asked.Message.{Message}
+use Rattle.dist_controller.specs.declared.report.Report.{Report}
+use Rattle.dist_terminal.specs.State.{cleared_of, with_hand}
 use Rattle.dist_terminal.specs.Descriptor.{short, judged_of, block_step, block_hand, descriptor_in, hand_in}
 use Rattle.dist_terminal.specs.Data.{data_of}
-use Rattle.dist_terminal.specs.declared.state.Hand.TheVariants.{Holding}
 use Rattle.dist_terminal.specs.declared.state.Terminal.{Terminal}
-use Rattle.dist_terminal.specs.declared.state.Stepped.{Stepped}
-use Rattle.dist_terminal.specs.declared.descriptor.Judged.{Judged}
-use Rattle.dist_terminal.specs.declared.descriptor.Judged.TheVariants.{NoReset, Again, HandFull, WrongLength, Good}
+use Rattle.dist_terminal.specs.declared.descriptor.Misfit.{Misfit}
+use Rattle.dist_terminal.specs.declared.descriptor.Misfit.TheVariants.{Again}
 use Rattle.dist_wrong.specs.Made.{Ways, real}
 
 -- ---- the controller
 
 -- the real ends, but for: answers to submissions, the transfer started, the message asked for, the outcome as it is heard, the report
-abbrev pub controlled : (Controller → ℕ → ℕ → Answer) → (Quality → ℕ → Controller → Controller) → (Controller → Asked)
-    → (Controller → Outcome → Outcome) → (Controller → Reported) → Ways
+abbrev pub controlled : (Controller → ℕ → ℕ → Answer) → (Quality → ℕ → Controller → Controller) → (Controller → Option Message)
+    → (Controller → Outcome → Outcome) → (Controller → Result Report Refusal) → Ways
 controlled admits starts asks hears reports =
     record {
       admits = admits;
@@ -56,15 +55,15 @@ as_told c outcome = outcome
 
 -- refuses every submission
 abbrev pub refusing : Ways
-refusing = controlled (λ c size store. Refused 5) real.starts real.asks as_told real.reports
+refusing = controlled (λ c size store. Err TransfersSpent) real.starts real.asks as_told real.reports
 
 -- asks for no message
 abbrev pub silent : Ways
-silent = controlled real.admits real.starts (λ c. Nothing) as_told real.reports
+silent = controlled real.admits real.starts (λ c. None) as_told real.reports
 
-abbrev pub counting : ℕ → Reported → Reported
-counting n (Reported.Refused m) = Reported.Refused m
-counting n (Reported.Report r) = Reported.Report (record { fate = r.fate; messages = n; found = r.found; acceptance = r.acceptance })
+abbrev pub counting : ℕ → Result Report Refusal → Result Report Refusal
+counting n (Err m) = Err m
+counting n (Ok r) = Ok (record { fate = r.fate; messages = n; found = r.found; acceptance = r.acceptance })
 
 -- says that each transfer took four messages
 abbrev pub making_up : Ways
@@ -110,14 +109,14 @@ going_on = controlled real.admits real.starts real.asks (λ c outcome. data_done
 -- a submission's answer, and the transfer started, with another limit than 254 of started transfers
 abbrev pub admits_to : ℕ → Controller → ℕ → ℕ → Answer
 admits_to limit c size store =
-    cond (short_of c.link store) (Refused 1)
-    (cond (not c.standing.accepted) (Refused 2)
+    cond (short_of c.link store) (Err NotReady)
+    (cond (not c.standing.accepted) (Err NoAcceptedReset)
     (then_answer (size_answer_of c.link size)
-    (cond (is_open c.phase) (Refused 4) (cond (leb limit c.standing.spent) (Refused 5) Accepted))))
+    (cond (is_open c.phase) (Err TransferOpen) (cond (leb limit c.standing.spent) (Err TransfersSpent) (Ok tt)))))
 
 abbrev pub starts_to : ℕ → Quality → ℕ → Controller → Controller
 starts_to limit quality size c =
-    with_transfer (record { size = size; quality = quality; gone = 1; fate = Fate.Open }) Sending
+    with_transfer (record { size = size; quality = quality; gone = 1; fate = (Some Fate.Open) }) Sending
     (with_standing
     (record {
       accepted = c.standing.accepted;
@@ -135,33 +134,33 @@ starting255 = controlled (admits_to 255) (starts_to 255) real.asks as_told real.
 
 -- what a descriptor of a block does: to the terminal; to its hand, with the message store
 abbrev pub Step : Type 0
-Step = Terminal → ℕ → Quality → DistributionCount → Stepped
+Step = Terminal → ℕ → Quality → DistributionCount → Stepped Terminal (Unit {0})
 
 abbrev pub Held : Type 0
 Held = Terminal → ℕ → Quality → DistributionCount → List ℕ → List ℕ → List ℕ
 
-abbrev pub step_by : Step → Descriptor → Terminal → Stepped
-step_by block D.Reset t = descriptor_in D.Reset t
-step_by block (D.Block size quality count) t = block t size quality count
-step_by block (D.Refused n) t = descriptor_in (D.Refused n) t
+abbrev pub step_by : Step → Result (Control Quality DistributionCount) Refusal → Terminal → Stepped Terminal (Unit {0})
+step_by block (Ok D.Reset) t = descriptor_in (Ok D.Reset) t
+step_by block (Ok (D.Block size quality count)) t = block t size quality count
+step_by block (Err n) t = descriptor_in (Err n) t
 
-abbrev pub hand_by : Held → Descriptor → Terminal → List ℕ → List ℕ → List ℕ
-hand_by block D.Reset t store hand = hand_in D.Reset t store hand
-hand_by block (D.Block size quality count) t store hand = block t size quality count store hand
-hand_by block (D.Refused n) t store hand = hand_in (D.Refused n) t store hand
+abbrev pub hand_by : Held → Result (Control Quality DistributionCount) Refusal → Terminal → List ℕ → List ℕ → List ℕ
+hand_by block (Ok D.Reset) t store hand = hand_in (Ok D.Reset) t store hand
+hand_by block (Ok (D.Block size quality count)) t store hand = block t size quality count store hand
+hand_by block (Err n) t store hand = hand_in (Err n) t store hand
 
-abbrev pub receives_by : Step → Terminal → ℕ → List ℕ → ℕ → ℕ → Stepped
+abbrev pub receives_by : Step → Terminal → ℕ → List ℕ → ℕ → ℕ → Stepped Terminal (Unit {0})
 receives_by block t subaddress words store hand =
-    cond (short t.link store hand) (refuse 1 t)
+    cond (short t.link store hand) (refuse NotReady t)
     (cond (eqb subaddress 27)
-    (cond (short t.link store hand) (refuse 1 t) (step_by block (read_descriptor_of words t.link) t))
+    (cond (short t.link store hand) (refuse NotReady t) (step_by block (read_descriptor_of distribution_count words t.link) t))
     (data_of t subaddress (length words) store))
 
 abbrev pub hands_by : Held → Terminal → ℕ → List ℕ → List ℕ → List ℕ → List ℕ
 hands_by block t subaddress words store hand =
     cond (short t.link (length store) (length hand)) hand
     (cond (eqb subaddress 27)
-    (cond (short t.link (length store) (length hand)) hand (hand_by block (read_descriptor_of words t.link) t store hand))
+    (cond (short t.link (length store) (length hand)) hand (hand_by block (read_descriptor_of distribution_count words t.link) t store hand))
     hand)
 
 -- the real ends, but for what a descriptor of a block does
@@ -178,7 +177,7 @@ received step held =
     }
 
 -- the real ends, but for how a descriptor of a block is judged
-abbrev pub judging : (Terminal → ℕ → Quality → DistributionCount → Judged) → Ways
+abbrev pub judging : (Terminal → ℕ → Quality → DistributionCount → Result (Unit {0}) Misfit) → Ways
 judging judged =
     received
     (λ t size quality count. block_step (judged t size quality count) t size count)
@@ -186,11 +185,11 @@ judging judged =
 
 -- takes every descriptor for a good one
 abbrev pub accepting : Ways
-accepting = judging (λ t size quality count. Good)
+accepting = judging (λ t size quality count. Ok tt)
 
 -- takes every descriptor for one it had before
 abbrev pub declining : Ways
-declining = judging (λ t size quality count. Again)
+declining = judging (λ t size quality count. Err Again)
 
 -- judges a Verified Length block as if it were Best Effort
 abbrev pub unverifying : Ways
@@ -211,13 +210,11 @@ echoing =
     (λ t size quality count. echo_step t.handled.0 t size quality count)
     (λ t size quality count store hand. block_hand (judged_of t size quality count) t size store hand)
 
-abbrev pub shows : Judged → Terminal → ℕ → DistributionCount → Stepped
-shows NoReset t size count = block_step NoReset t size count
-shows Again t size count = block_step Again t size count
-shows HandFull t size count = block_step HandFull t size count
-shows WrongLength t size count = block_step WrongLength t size count
-shows Good t size count =
-    accept (with_hand count (Holding size count) (distribution_confirmation_words t.link size false count) (cleared_of t))
+abbrev pub shows : Result (Unit {0}) Misfit → Terminal → ℕ → DistributionCount → Stepped Terminal (Unit {0})
+shows (Err m) t size count = block_step (Err m) t size count
+shows (Ok u) t size count =
+    accept
+    (with_hand count (Some (record { size = size; count = count })) (distribution_confirmation_words t.link size false count) (cleared_of t))
 
 -- writes 27T when it accepts a block, not when the block is taken
 abbrev pub hasty : Ways

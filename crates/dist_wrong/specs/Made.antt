@@ -1,10 +1,12 @@
 -- Distribution with some calls of its ends put in: with the real calls it is distribution itself (proofs/Right.antt).
 -- Assumes nothing.
-use Rattle.std.specs.Prelude.{ℕ, cond, not, List, [], length, replicate}
+use Rattle.std.specs.Prelude.{ℕ, cond, not, Option, Some, None, Result, Ok, Err, List, [], length, replicate}
 use Rattle.words.specs.Link.{configured_of}
 use Rattle.words.specs.Control.{quality_of, list_of}
-use Rattle.words.specs.declared.answer.Answer.{Answer}
-use Rattle.words.specs.declared.answer.Answer.TheVariants.{Accepted, Refused}
+use Rattle.words.specs.Refusal.{Answer, accept, refuse}
+use Rattle.words.specs.declared.refusal.Refusal.{Refusal}
+use Rattle.words.specs.declared.refusal.Refusal.TheVariants.{NotReady, NothingAsked}
+use Rattle.words.specs.declared.refusal.Stepped.{Stepped}
 use Rattle.words.specs.declared.control.Quality.{Quality}
 use Rattle.words.specs.declared.status.Outcome.{Outcome}
 use Rattle.words.specs.declared.status.Outcome.TheVariants.{Done, NoReply}
@@ -14,20 +16,16 @@ use Rattle.dist_controller.specs.Message.{words_asked}
 use Rattle.dist_controller.specs.Told as Told
 use Rattle.dist_controller.specs.Report.{report_of}
 use Rattle.dist_controller.specs.declared.state.Controller.{Controller}
-use Rattle.dist_controller.specs.declared.asked.Asked.{Asked}
-use Rattle.dist_controller.specs.declared.asked.Asked.TheVariants.{Nothing, Receive, Transmit}
-use Rattle.dist_controller.specs.declared.told.Stepped as Controller
-use Rattle.dist_controller.specs.declared.report.Reported.{Reported}
+use Rattle.dist_controller.specs.declared.asked.Message.{Message}
+use Rattle.dist_controller.specs.declared.asked.Message.TheVariants.{Receive, Transmit}
+use Rattle.dist_controller.specs.declared.report.Report.{Report}
 use Rattle.dist_terminal.specs.Calls as Calls
 use Rattle.dist_terminal.specs.declared.state.Terminal.{Terminal}
-use Rattle.dist_terminal.specs.declared.state.Stepped as Terminal
-use Rattle.dist_pair.specs.State.{refuse}
-use Rattle.dist_pair.specs.Events.{controller_stepped, terminal_stepped}
-use Rattle.dist_pair.specs.Bus.{lent_short, has_arrived, caught_of, places_in, tell_in}
+use Rattle.dist_pair.specs.Events.{controller_stepped, moved_of, terminal_stepped}
+use Rattle.dist_pair.specs.Bus.{lent_short, has_arrived, caught_of, places_in}
 use Rattle.dist_pair.specs.declared.state.Flight.{Flight}
 use Rattle.dist_pair.specs.declared.state.Flight.TheVariants.{NotArrived, Arrived, Caught}
 use Rattle.dist_pair.specs.declared.state.Pair.{Pair}
-use Rattle.dist_pair.specs.declared.state.Stepped.{Stepped}
 use Rattle.promises.specs.Run as Run
 use Rattle.promises.specs.Run.{Event, submit, reset, frame, arrive, told_done, told_no_reply, restart_sender, restart_receiver, deliver, Machine}
 use Rattle.dist_promises.specs.Distribution.{Ends, stepped_of, store_of, places_of, hand_of, says_of, answer_of, asking_of, messages_of, parts_of, distribution}
@@ -37,11 +35,11 @@ pub record Ways : Type 0 where
   -- the controller: a submission's answer; the transfer started; the message asked for; an outcome told; the report
   pub admits : Controller → ℕ → ℕ → Answer
   pub starts : Quality → ℕ → Controller → Controller
-  pub asks : Controller → Asked
-  pub told : Controller → Outcome → List ℕ → Controller.Stepped
-  pub reports : Controller → Reported
+  pub asks : Controller → Option Message
+  pub told : Controller → Outcome → List ℕ → Stepped Controller (Unit {0})
+  pub reports : Controller → Result Report Refusal
   -- the terminal: a message that arrives, and its lent hand after it
-  pub receives : Terminal → ℕ → List ℕ → ℕ → ℕ → Terminal.Stepped
+  pub receives : Terminal → ℕ → List ℕ → ℕ → ℕ → Stepped Terminal (Unit {0})
   pub hands : Terminal → ℕ → List ℕ → List ℕ → List ℕ → List ℕ
 
 abbrev pub real : Ways
@@ -57,43 +55,43 @@ real =
     }
 
 module _ (w : Ways) where
-  abbrev pub submit_in : Answer → Controller → Quality → ℕ → Controller.Stepped
-  submit_in Accepted c quality size = Told.accept (w.starts quality size c)
-  submit_in (Refused n) c quality size = Told.refuse n c
+  abbrev pub submit_in : Answer → Controller → Quality → ℕ → Stepped Controller (Unit {0})
+  submit_in (Ok u) c quality size = accept (w.starts quality size c)
+  submit_in (Err r) c quality size = refuse r c
 
-  abbrev pub arrive_in : Asked → Ends → Stepped
-  arrive_in Nothing x = refuse 18 x.pair
-  arrive_in (Receive subaddress words) x =
+  abbrev pub arrive_in : Option Message → Ends → Stepped Pair (Unit {0})
+  arrive_in None x = refuse NothingAsked x.pair
+  arrive_in (Some (Receive subaddress words)) x =
       terminal_stepped
       (w.receives x.pair.terminal subaddress (words_asked x.pair.controller x.store) (length x.places) (length x.hand))
       Arrived
       x.pair
-  arrive_in (Transmit subaddress words) x = caught_of x.pair
+  arrive_in (Some (Transmit subaddress words)) x = caught_of x.pair
 
-  abbrev pub hand_in : Asked → Ends → List ℕ
-  hand_in Nothing x = x.hand
-  hand_in (Receive subaddress words) x =
+  abbrev pub hand_in : Option Message → Ends → List ℕ
+  hand_in None x = x.hand
+  hand_in (Some (Receive subaddress words)) x =
       w.hands x.pair.terminal subaddress (words_asked x.pair.controller x.store) x.places x.hand
-  hand_in (Transmit subaddress words) x = x.hand
+  hand_in (Some (Transmit subaddress words)) x = x.hand
 
-  abbrev pub tell : Pair → Outcome → List ℕ → Stepped
-  tell p outcome words = tell_in (w.told p.controller outcome words).answer (w.told p.controller outcome words) p
+  abbrev pub tell : Pair → Outcome → List ℕ → Stepped Pair (Unit {0})
+  tell p outcome words = moved_of (w.told p.controller outcome words) p
 
-  abbrev pub done_in : Flight → Pair → Stepped
-  done_in NotArrived p = refuse 18 p
+  abbrev pub done_in : Flight → Pair → Stepped Pair (Unit {0})
+  done_in NotArrived p = refuse NothingAsked p
   done_in Arrived p = tell p Done []
   done_in (Caught words) p = tell p Done (list_of words)
 
-  abbrev pub stepped : Event → Ends → Stepped
+  abbrev pub stepped : Event → Ends → Stepped Pair (Unit {0})
   stepped (submit b) x =
       controller_stepped
       (submit_in (w.admits x.pair.controller (length b.block) (length x.store)) x.pair.controller (quality_of b.verified) (length b.block))
       x.pair
   stepped arrive x =
-      cond (lent_short x.pair (length x.store) (length x.places) (length x.hand)) (refuse 1 x.pair)
-      (cond (has_arrived x.pair.flight) (refuse 18 x.pair)
+      cond (lent_short x.pair (length x.store) (length x.places) (length x.hand)) (refuse NotReady x.pair)
+      (cond (has_arrived x.pair.flight) (refuse NothingAsked x.pair)
       (arrive_in (w.asks x.pair.controller) x))
-  stepped told_done x = cond (not (configured_of x.pair.controller.link)) (refuse 1 x.pair) (done_in x.pair.flight x.pair)
+  stepped told_done x = cond (not (configured_of x.pair.controller.link)) (refuse NotReady x.pair) (done_in x.pair.flight x.pair)
   stepped told_no_reply x = tell x.pair NoReply []
   stepped reset x = stepped_of reset x
   stepped frame x = stepped_of frame x
@@ -141,7 +139,7 @@ module _ (w : Ways) where
   hand (deliver buffer) x = hand_of (deliver buffer) x
 
   abbrev pub called : Event → Ends → Run.Answer
-  called e x = answer_of (stepped e x).answer (w.reports x.pair.controller) (w.reports (stepped e x).pair.controller)
+  called e x = answer_of (stepped e x).answer (w.reports x.pair.controller) (w.reports (stepped e x).state.controller)
 
   abbrev pub says : Event → Ends → Run.Answer
   says arrive x = says_of arrive x
@@ -160,7 +158,7 @@ made w fresh =
     record {
       State = Ends;
       fresh = fresh;
-      step = λ e x. record { pair = (stepped w e x).pair; store = store w e x; places = places w e x; hand = hand w e x };
+      step = λ e x. record { pair = (stepped w e x).state; store = store w e x; places = places w e x; hand = hand w e x };
       says = says w;
       asks = λ x. asking_of (w.asks x.pair.controller) (has_arrived x.pair.flight);
       parts = λ x. parts_of x.pair.terminal;

@@ -9,9 +9,9 @@ use native.Mathlib.Nat.{pow-suc}
 use native.Mathlib.Omega.{arith}
 use lib.ListN.{length, take, get_or, set}
 use lib.Dec.{eqb}
-use lib.Bits.{bit_and, bit_or, and_step, or_step, or_zero_r}
+use lib.Bits.{bit_or, or_step, or_zero_r}
 use lib.Count.{ones, ones_step, count_trailing_zeros, trailing_of_zero, under}
-use lib.Pow.{pow_pos, pow-lt, shr-shr}
+use lib.Pow.{pow-lt, shr-shr}
 use Rattle.stores.specs.Marks.{marks_of, number_of, trues, first_false}
 
 -- ---- digits
@@ -105,17 +105,6 @@ mark_at (suc k) m (suc i) h =
     let n : 1 + i ≡ suc i = omega arith in
     mark_at k (m / 2) i (omega arith) ∙ ap (λ (x : ℕ). eqb (x % 2) 1) (rw n at (shr-shr m 1 i))
 
--- the lowest digit of the first places that are not marked, and the digits above it
-lows : (X Y m : ℕ) → 0 < X → m < Y * 2
-    → (bit_and (X * 2 - 1) (Y * 2 - 1 - m) % 2 ≡ 1 - m % 2) × (bit_and (X * 2 - 1) (Y * 2 - 1 - m) / 2 ≡ bit_and (X - 1) (Y - 1 - m / 2))
-lows X Y m one b =
-    let a₀ : (X * 2 - 1) / 2 ≡ X - 1 = omega arith in
-    let a₁ : (X * 2 - 1) % 2 ≡ 1 = omega arith in
-    let b₀ : (Y * 2 - 1 - m) / 2 ≡ Y - 1 - m / 2 = omega arith in
-    let b₁ : (Y * 2 - 1 - m) % 2 ≡ 1 - m % 2 = omega arith in
-    let s = rw (a₀, a₁, b₀, b₁) at (and_step (X * 2 - 1) (Y * 2 - 1 - m)) in
-    (omega arith, omega arith)
-
 under_mark : (m t : ℕ) → under (1 - m % 2) t ≡ cond (eqb (m % 2) 1) (suc t) zero
 under_mark m t = go (digit m)
   where
@@ -127,15 +116,32 @@ place_turn : (x m t k : ℕ) → (x % 2 ≡ 1 - m % 2) → (count_trailing_zeros
 unfolding count_trailing_zeros
 place_turn x m t k e f = rw (e, f) (under_mark m t)
 
--- the lowest set bit of the first n places that are not marked
-pub lowest : (k n m : ℕ) → n ≤ k → m < 2 ^ k → count_trailing_zeros k (bit_and (2 ^ n - 1) (2 ^ k - 1 - m)) ≡ first_false k (take n (marks_of k m))
+-- the lowest place that is not marked
+pub lowest : (k m : ℕ) → m < 2 ^ k → count_trailing_zeros k (2 ^ k - 1 - m) ≡ first_false k (marks_of k m)
 unfolding marks_of first_false
-lowest k zero m h b = trailing_of_zero k
-lowest zero (suc n) m h b = let z : ⊥ = omega arith in absurd z
-lowest (suc k) (suc n) m h b =
+lowest zero m b = let z : 2 ^ 0 - 1 - m ≡ 0 = omega arith in rw z (trailing_of_zero 0)
+lowest (suc k) m b =
     let g = rw (pow-suc 2 k) at b in
-    let l = lows (2 ^ n) (2 ^ k) m (pow_pos n) g in
-    rw (pow-suc 2 n, pow-suc 2 k) (place_turn _ m _ k l.0 (rw l.1 (lowest k n (m / 2) (omega arith) (halved k m b))))
+    let last : (2 ^ k * 2 - 1 - m) % 2 ≡ 1 - m % 2 = omega arith in
+    let half : (2 ^ k * 2 - 1 - m) / 2 ≡ 2 ^ k - 1 - m / 2 = omega arith in
+    rw (pow-suc 2 k) (place_turn _ m _ k last (rw half (lowest k (m / 2) (halved k m b))))
+
+-- among the first n: the same place, or none
+pub first_within : (k n : ℕ) (bs : List Bool) → first_false k bs < n → first_false k (take n bs) ≡ first_false k bs
+unfolding first_false
+first_within k zero bs h = let z : ⊥ = omega arith in absurd z
+first_within k (suc n) [] h = refl
+first_within zero (suc n) (b ∷ bs) h = refl
+first_within (suc k) (suc n) (true ∷ bs) h = ap suc (first_within k n bs (omega arith))
+first_within (suc k) (suc n) (false ∷ bs) h = refl
+
+pub first_behind : (k n : ℕ) (bs : List Bool) → n ≤ first_false k bs → first_false k (take n bs) ≡ k
+unfolding first_false
+first_behind k zero bs h = refl
+first_behind k (suc n) [] h = refl
+first_behind zero (suc n) (b ∷ bs) h = let z : ⊥ = omega arith in absurd z
+first_behind (suc k) (suc n) (true ∷ bs) h = ap suc (first_behind k n bs (omega arith))
+first_behind (suc k) (suc n) (false ∷ bs) h = let z : ⊥ = omega arith in absurd z
 
 -- ---- one mark more
 

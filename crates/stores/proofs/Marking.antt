@@ -7,20 +7,45 @@ use Prim.Native.Nat.{ℕ, zero, suc, ◌+◌, ◌-◌, ◌≤◌, ◌<◌}
 use native.Mathlib.Omega.{arith}
 use lib.ListN.{length, take, get_or, set, length-take, length-set}
 use lib.Seq.{get_or-take, get_or-set_same, get_or-set_other, set-get_or}
-use borrow.Author.Tests.{le-leb, lt-ltb, leb-true, ltb-true, ltb-false}
+use borrow.Author.Tests.{le-leb, le-ltb, lt-ltb, leb-true, ltb-true, ltb-false}
 use Rattle.words.proofs.Ranges.{by, both}
 use lib.Dec.{leb, ltb}
-use Rattle.stores.specs.Marks.{marks_of, number_of, trues, first_false, has_mark, mark_of, is_marked_of, marked_of, lowest_missing_of}
-use Rattle.stores.proofs.Digits.{length_marks, number_marks, marks_number, trues_le, trues_more, number_lt}
+use lib.Bits.{bit_or, or_lt}
+use lib.Count.{ones}
+use lib.Pow.{pow-lt}
+use Rattle.std.specs.Prelude.{Some, None, min, ◌^◌, ◌*◌, ◌/◌, ◌%◌, eqb}
+use Rattle.std.specs.Int.{w16, trailing_ones}
+use Rattle.std.specs.Option.{unwrap_or}
+use Rattle.stores.specs.Marks.{missing_of, marks_of, number_of, trues, first_false, has_mark, mark_of, is_marked_of, marked_of, lowest_missing_of}
+use Rattle.stores.proofs.Digits.{length_marks, number_marks, marks_number, trues_le, trues_more, number_lt, bit_is, or_marks, mark_at, ones_trues, lowest, first_within, first_behind}
 
 -- ---- what a mark changes
 
-inside : (s : ℕ) → has_mark s ≡ true → (11 ≤ s) × (s ≤ 26)
+pub inside : (s : ℕ) → has_mark s ≡ true → (11 ≤ s) × (s ≤ 26)
 unfolding has_mark
 inside s h = let b = both (leb 11 s) (leb s 26) h in (leb-true 11 s b.0, leb-true s 26 b.1)
 
 marks_after : (m s : ℕ) → marks_of 16 (number_of (set (marks_of 16 m) (s - 11) true)) ≡ set (marks_of 16 m) (s - 11) true
 marks_after m s = marks_number 16 (set (marks_of 16 m) (s - 11) true) (simp length-set (length_marks 16 m))
+
+-- what the machine does to a mark
+pub bit_set : (m s : ℕ) → m < 65536 → has_mark s ≡ true → bit_or m (1 * 2 ^ (s - 11) % 65536) ≡ mark_of m s
+unfolding mark_of
+bit_set m s h e =
+    let i = s - 11 in
+    let b = inside s e in
+    let l : i < 16 = omega arith in
+    simp e (rw (bit_is i l, ← or_marks 16 m i) (sym (number_marks 16 (bit_or m (2 ^ i)) (or_lt 16 m (2 ^ i) h (pow-lt l)))))
+
+pub bit_read : (m s : ℕ) → has_mark s ≡ true → eqb (m / 2 ^ (s - 11) % 2) 1 ≡ is_marked_of m s
+unfolding is_marked_of
+bit_read m s e =
+    let b = inside s e in
+    simp e (sym (mark_at 16 m (s - 11) (omega arith)))
+
+pub bits_counted : (m : ℕ) → m < 65536 → ones m ≡ marked_of m
+unfolding marked_of
+bits_counted m h = ones_trues 16 m h
 
 -- a subaddress that can be marked is marked after its mark
 pub marked_same : (m s : ℕ) → has_mark s ≡ true → is_marked_of (mark_of m s) s ≡ true
@@ -113,6 +138,33 @@ has_place k h = simp (le-leb 11 (11 + k) (omega arith), le-leb (11 + k) 26 (omeg
 mark_of_lem : (m k : ℕ) → k < 16 → is_marked_of m (11 + k) ≡ get_or (marks_of 16 m) k false
 unfolding is_marked_of
 mark_of_lem m k h = let e : 11 + k - 11 ≡ k = omega arith in simp (has_place k h, e)
+
+-- the lowest bit that is not set is missing where it is one of the first n
+pub missing_there : (m n p : ℕ) → m < 65536 → p ≡ trailing_ones w16 m → p < min n 16 → missing_of m n ≡ Some (11 + p)
+unfolding missing_of
+missing_there m n p h e l =
+    let q : p ≡ first_false 16 (marks_of 16 m) = e ∙ lowest 16 m h in
+    let same = first_within 16 n (marks_of 16 m) (omega arith) ∙ sym q in
+    rw (same, lt-ltb p 16 (omega arith))
+
+-- and none is where it is behind them
+pub missing_nowhere : (m n p : ℕ) → m < 65536 → p ≡ trailing_ones w16 m → min n 16 ≤ p → missing_of m n ≡ None
+unfolding missing_of
+missing_nowhere m n p h e l = by (ltb p n) (λ f. inner (ltb-true p n f)) (λ f. outer (ltb-false p n f))
+  where
+    q : p ≡ first_false 16 (marks_of 16 m)
+    q = e ∙ lowest 16 m h
+
+    inner : p < n → missing_of m n ≡ None
+    inner f = let same = first_within 16 n (marks_of 16 m) (omega (arith, q)) ∙ sym q in rw (same, le-ltb p 16 (omega arith))
+
+    outer : n ≤ p → missing_of m n ≡ None
+    outer f = rw (first_behind 16 n (marks_of 16 m) (omega (arith, q)))
+
+-- 0 stands for none
+pub missing_or_zero : (m n : ℕ) → unwrap_or (missing_of m n) 0 ≡ lowest_missing_of m n
+unfolding missing_of lowest_missing_of
+missing_or_zero m n = let p = first_false 16 (take n (marks_of 16 m)) in by (ltb p 16) (λ f. simp f) (λ f. simp f)
 
 -- 0 says that none of the first n is missing
 pub none_missing : (m n : ℕ) → lowest_missing_of m n ≡ 0 → (k : ℕ) → k < n → k < 16 → is_marked_of m (11 + k) ≡ true

@@ -1,4 +1,3 @@
-pub mod Swapping
 pub mod Writing
 pub mod Reading
 pub mod Copying

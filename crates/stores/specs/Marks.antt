@@ -1,6 +1,6 @@
 -- The sixteen marks of a terminal's subaddresses in one number (document 01, "Distribution").
 -- Assumes nothing.
-use Rattle.std.specs.Prelude.{ℕ, zero, suc, ◌+◌, ◌-◌, ◌*◌, ◌/◌, ◌%◌, Bool, true, false, cond, ◌&&◌, List, [], ◌∷◌, take, get_or, set, eqb, leb, ltb}
+use Rattle.std.specs.Prelude.{ℕ, zero, suc, ◌+◌, ◌-◌, ◌*◌, ◌/◌, ◌%◌, Bool, true, false, cond, ◌&&◌, List, [], ◌∷◌, take, get_or, set, eqb, leb, ltb, Option, Some, None}
 
 -- the lowest k binary digits of a number, lowest first: whether each is set
 unfoldable pub marks_of : ℕ → ℕ → List Bool
@@ -44,3 +44,7 @@ subaddress_at p = cond (ltb p 16) (11 + p) 0
 -- the lowest subaddress missing of the first n
 unfoldable pub lowest_missing_of : ℕ → ℕ → ℕ
 lowest_missing_of m n = subaddress_at (first_false 16 (take n (marks_of 16 m)))
+
+-- the same, none where each has a mark
+unfoldable pub missing_of : ℕ → ℕ → Option ℕ
+missing_of m n = let p = first_false 16 (take n (marks_of 16 m)) in cond (ltb p 16) (Some (11 + p)) None

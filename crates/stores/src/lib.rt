@@ -5,6 +5,5 @@
 pub mod copies;
 pub mod marks;
 pub mod reader;
-pub mod sizes;
 pub mod whole;
 pub mod writer;

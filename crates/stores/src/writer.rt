@@ -1,51 +1,18 @@
 // The word writer (document 01, "Words on the bus"): each message is written into its place inside the lent block store.
-ghost use Rattle.std.specs.Prelude.{◌≡◌, ◌*◌, ◌≤◌, length, take};
-ghost use Rattle.std.proofs.lemmas.List.Edits.{sets};
-ghost use Rattle.words.specs.Bytes.{bytes_of};
+ghost use Rattle.std.specs.Prelude.{◌≡◌, length};
 ghost use Rattle.stores.specs.Writing.{written_of, words_written_of, message_written_of, message_words_written_of};
 
-use crate::sizes::least;
-use crate::whole::{bytes_of, high, low};
+use crate::whole::{bytes_of, put_bytes};
 
-// The words of a whole message, in a local.
-fn load_words(words: &[u16]) -> [u16; 32]
-    requires { 32 ≤ length words.now }
-    ensures { result ≡ take 32 words.now }
+// As many words as fit.
+#[tactic(auto, unfolding(crate::specs::Writing::written_of, crate::specs::Writing::words_written_of))]
+fn write_some(part: &mut [u8], words: &[u16]) -> usize
+    ensures { (result ≡ words_written_of (length part.old) (length words.now))
+        × (part.new ≡ written_of part.old words.now) }
 {
-    let mut out = [0u16; 32];
-    let mut i: usize = 0;
-    while i < 32 {
-        out[i] = words[i];
-        i += 1;
-    }
-    out
-}
-
-// The bytes of a whole message, into the start of part.
-#[tactic(auto, using(crate::proofs::Runs::copied_turn, crate::proofs::Runs::done))]
-fn put_bytes(part: &mut [u8], bytes: [u8; 64])
-    requires { 64 ≤ length part.old }
-    ensures { part.new ≡ sets part.old 0 bytes }
-{
-    let mut i: usize = 0;
-    while i < 64 {
-        part[i] = bytes[i];
-        i += 1;
-    }
-}
-
-// The first n words into the start of part.
-fn write_some(part: &mut [u8], words: &[u16], n: usize)
-    requires { (n ≤ length words.now) × (2 * n ≤ length part.old) }
-    ensures { part.new ≡ sets part.old 0 (bytes_of (take n words.now)) }
-{
-    let mut i: usize = 0;
-    while i < n {
-        let w = words[i];
-        part[2 * i] = high(w);
-        part[2 * i + 1] = low(w);
-        i += 1;
-    }
+    let n = words.len().min(part.len() / 2);
+    put_bytes(&words[..n], &mut part[..2 * n]);
+    n
 }
 
 // Writes as many words as fit into the start of part, first byte high, and says how many. The rest of part stays.
@@ -54,14 +21,14 @@ pub fn write_words(part: &mut [u8], words: &[u16]) -> usize
     ensures { (result ≡ words_written_of (length part.old) (length words.now))
         × (part.new ≡ written_of part.old words.now) }
 {
-    let n = least(part.len() / 2, words.len());
     // a whole message, which most are, in moves of many bytes
-    if n == 32 {
-        put_bytes(part, bytes_of(load_words(words)));
+    if let Some(message) = words.as_array()
+        && let Some(place) = part.first_chunk_mut()
+    {
+        *place = bytes_of(*message);
         return 32;
     }
-    write_some(part, words, n);
-    n
+    write_some(part, words)
 }
 
 // Writes a message into its place, the 64 bytes from byte `at` of the store on, and says how many words it was.
@@ -74,6 +41,6 @@ pub fn write_message(store: &mut [u8], at: usize, words: &[u16]) -> usize
     if store.len() < at {
         return 0;
     }
-    let end = at + least(64, store.len() - at);
+    let end = at + usize::min(64, store.len() - at);
     write_words(&mut store[at..end], words)
 }

@@ -1,114 +1,84 @@
 // Blocks: what sizes are taken, how a block is cut, and which count comes next.
-use crate::print;
+use crate::print::{ONE, ZERO, taken};
 use std::io;
 use std::io::Write;
-use words::answer::number;
 use words::count::{AcquisitionCount, DistributionCount};
 use words::cutting;
+use words::refusal::number;
 
-// Whether each of the two links takes the size.
-fn answers(out: &mut impl Write, size: usize) -> io::Result<()> {
-    print::number(out, size as u64)?;
-    print::answer(out, cutting::size_answer(print::link_zero(), size))?;
-    print::answer(out, cutting::size_answer(print::link_one(), size))
-}
-
-// With the two answers as numbers, too.
+// Whether each of the two links takes the size, in words and as a number.
 fn asked_line(out: &mut impl Write, size: usize) -> io::Result<()> {
-    print::text(out, b"asked")?;
-    answers(out, size)?;
-    print::number(
+    let zero = cutting::size_answer(ZERO, size);
+    let one = cutting::size_answer(ONE, size);
+    writeln!(
         out,
-        number(cutting::size_answer(print::link_zero(), size)) as u64,
-    )?;
-    print::number(
-        out,
-        number(cutting::size_answer(print::link_one(), size)) as u64,
-    )?;
-    print::end(out)
+        "asked\t{size}\t{}\t{}\t{}\t{}",
+        taken(zero),
+        taken(one),
+        number(zero),
+        number(one),
+    )
 }
 
 fn size_line(out: &mut impl Write, size: u16) -> io::Result<()> {
     let messages = cutting::messages(size);
-    let mut last = messages;
-    if 0 < messages {
-        last = messages - 1;
-    }
-    print::text(out, b"size")?;
-    answers(out, size as usize)?;
-    print::number(out, messages as u64)?;
-    print::number(out, cutting::message_words(size, 0) as u64)?;
-    print::number(out, cutting::message_words(size, last) as u64)?;
-    print::number(
+    let last = messages.saturating_sub(1);
+    writeln!(
         out,
-        cutting::message_subaddress(print::link_zero(), last) as u64,
-    )?;
-    print::number(
-        out,
-        cutting::message_subaddress(print::link_one(), last) as u64,
-    )?;
-    print::end(out)
+        "size\t{size}\t{}\t{}\t{messages}\t{}\t{}\t{}\t{}",
+        taken(cutting::size_answer(ZERO, usize::from(size))),
+        taken(cutting::size_answer(ONE, usize::from(size))),
+        cutting::message_words(size, 0),
+        cutting::message_words(size, last),
+        cutting::message_subaddress(ZERO, last),
+        cutting::message_subaddress(ONE, last),
+    )
 }
 
 // A byte less than whole messages, whole messages, and a byte more.
 fn sizes(out: &mut impl Write) -> io::Result<()> {
-    let mut whole: u16 = 64;
-    while whole <= 4096 {
-        size_line(out, whole - 1)?;
-        size_line(out, whole)?;
-        size_line(out, whole + 1)?;
-        whole += 64;
+    for whole in (64..=4096).step_by(64) {
+        for size in [whole - 1, whole, whole + 1] {
+            size_line(out, size)?;
+        }
     }
     Ok(())
-}
-
-fn count_line(out: &mut impl Write, n: u8) -> io::Result<()> {
-    print::text(out, b"count")?;
-    print::number(out, n as u64)?;
-    print::number(out, DistributionCount(n).next().0 as u64)?;
-    print::number(out, AcquisitionCount(n).next().0 as u64)?;
-    print::end(out)
 }
 
 fn counts(out: &mut impl Write) -> io::Result<()> {
-    let mut n: u16 = 0;
-    while n < 256 {
-        count_line(out, (n % 256) as u8)?;
-        n += 1;
+    for n in 0..=255 {
+        let there = DistributionCount(n).next();
+        let back = AcquisitionCount(n).next();
+        writeln!(out, "count\t{n}\t{}\t{}", there.0, back.0)?;
     }
     Ok(())
 }
 
-fn verdict(out: &mut impl Write, same: bool) -> io::Result<()> {
-    if same {
-        print::field(out, b"same")
-    } else {
-        print::field(out, b"other")
-    }
+fn verdict(same: bool) -> &'static str {
+    if same { "same" } else { "other" }
 }
 
 fn same_line(out: &mut impl Write, a: u8, b: u8) -> io::Result<()> {
-    print::text(out, b"same")?;
-    print::number(out, a as u64)?;
-    print::number(out, b as u64)?;
-    verdict(out, DistributionCount(a).same(DistributionCount(b)))?;
-    verdict(out, AcquisitionCount(a).same(AcquisitionCount(b)))?;
-    print::end(out)
+    let there = DistributionCount(a).same(DistributionCount(b));
+    let back = AcquisitionCount(a).same(AcquisitionCount(b));
+    writeln!(
+        out,
+        "same\t{a}\t{b}\t{}\t{}",
+        verdict(there),
+        verdict(back),
+    )
 }
 
-// The last size is 1 in its low sixteen bits.
+// The last size asked about is 1 in its low sixteen bits.
 pub fn all(out: &mut impl Write) -> io::Result<()> {
-    asked_line(out, 0)?;
-    asked_line(out, 1024)?;
-    asked_line(out, 1025)?;
-    asked_line(out, 65536)?;
-    asked_line(out, 65537)?;
+    for size in [0, 1024, 1025, 65536, 65537] {
+        asked_line(out, size)?;
+    }
     size_line(out, 1)?;
     sizes(out)?;
     counts(out)?;
-    same_line(out, 0, 0)?;
-    same_line(out, 0, 255)?;
-    same_line(out, 1, 129)?;
-    same_line(out, 255, 1)?;
-    same_line(out, 255, 255)
+    for (a, b) in [(0, 0), (0, 255), (1, 129), (255, 1), (255, 255)] {
+        same_line(out, a, b)?;
+    }
+    Ok(())
 }

@@ -1,195 +1,100 @@
 // Configurations: each number at its range's ends and just outside, in both modes, and past the width that a link keeps.
-use crate::print;
-use std::io;
+use crate::print::{Answer, ONE, ZERO};
+use std::fmt::Display;
 use std::io::Write;
+use std::{fmt, io};
 use words::link;
-use words::link::{Configuring, Link};
+use words::link::{Link, Settings};
 
-// The five numbers of a configuration, of any size.
+// The five numbers, in the order of a configuration.
 #[derive(Clone, Copy)]
-struct Five {
-    address: u32,
-    mode: u32,
-    subaddress: u32,
-    largest: u32,
-    window: u32,
+struct Numbers(Settings);
+
+impl Display for Numbers {
+    fn fmt<W: fmt::Write>(&self, f: &mut fmt::Formatter<W>) -> fmt::Result {
+        let Settings {
+            address,
+            mode,
+            subaddress,
+            largest,
+            window,
+        } = self.0;
+        write!(f, "{address}\t{mode}\t{subaddress}\t{largest}\t{window}")
+    }
 }
 
 // What a configured link keeps, and the storage it asks for.
-fn kept(out: &mut impl Write, l: Link) -> io::Result<()> {
-    print::field(out, b"ok")?;
-    print::number(out, l.address as u64)?;
-    print::number(out, l.mode as u64)?;
-    print::number(out, l.subaddress as u64)?;
-    print::number(out, l.largest as u64)?;
-    print::number(out, l.window as u64)?;
-    print::number(out, link::message_store(l) as u64)?;
-    print::number(out, link::block_store(l) as u64)
-}
+#[derive(Clone, Copy)]
+struct Kept(Link);
 
-fn finding(out: &mut impl Write, made: Configuring) -> io::Result<()> {
-    match made {
-        Configuring::Configured(l) => kept(out, l)?,
-        Configuring::Refused(n) => print::refused(out, n)?,
+impl Display for Kept {
+    fn fmt<W: fmt::Write>(&self, f: &mut fmt::Formatter<W>) -> fmt::Result {
+        let numbers = Numbers(Settings::from(self.0));
+        let message_store = link::message_store(self.0);
+        let block_store = link::block_store(self.0);
+        write!(f, "ok\t{numbers}\t{message_store}\t{block_store}")
     }
-    print::end(out)
 }
 
-fn line(out: &mut impl Write, f: Five) -> io::Result<()> {
-    print::text(out, b"link")?;
-    print::number(out, f.address as u64)?;
-    print::number(out, f.mode as u64)?;
-    print::number(out, f.subaddress as u64)?;
-    print::number(out, f.largest as u64)?;
-    print::number(out, f.window as u64)?;
-    finding(
-        out,
-        link::configure(f.address, f.mode, f.subaddress, f.largest, f.window),
-    )
+fn line(out: &mut impl Write, settings: Settings) -> io::Result<()> {
+    let made = link::configure(settings).map(Kept);
+    writeln!(out, "link\t{}\t{}", Numbers(settings), Answer(made))
 }
 
-fn address(out: &mut impl Write, base: Five, n: u32) -> io::Result<()> {
-    let mut f = base;
-    f.address = n;
-    line(out, f)
-}
-
-fn mode(out: &mut impl Write, base: Five, n: u32) -> io::Result<()> {
-    let mut f = base;
-    f.mode = n;
-    line(out, f)
-}
-
-fn subaddress(out: &mut impl Write, base: Five, n: u32) -> io::Result<()> {
-    let mut f = base;
-    f.subaddress = n;
-    line(out, f)
-}
-
-fn largest(out: &mut impl Write, base: Five, n: u32) -> io::Result<()> {
-    let mut f = base;
-    f.largest = n;
-    line(out, f)
-}
-
-fn window(out: &mut impl Write, base: Five, n: u32) -> io::Result<()> {
-    let mut f = base;
-    f.window = n;
-    line(out, f)
-}
-
-fn addresses_and_modes(out: &mut impl Write, base: Five) -> io::Result<()> {
-    address(out, base, 0)?;
-    address(out, base, 30)?;
-    address(out, base, 31)?;
-    address(out, base, 256)?;
-    mode(out, base, 0)?;
-    mode(out, base, 1)?;
-    mode(out, base, 2)?;
-    mode(out, base, 256)?;
-    mode(out, base, 257)
-}
-
-fn subaddresses(out: &mut impl Write, base: Five) -> io::Result<()> {
-    subaddress(out, base, 0)?;
-    subaddress(out, base, 10)?;
-    subaddress(out, base, 11)?;
-    subaddress(out, base, 12)?;
-    subaddress(out, base, 26)?;
-    subaddress(out, base, 27)?;
-    subaddress(out, base, 267)
-}
-
-fn largests(out: &mut impl Write, base: Five) -> io::Result<()> {
-    largest(out, base, 0)?;
-    largest(out, base, 1023)?;
-    largest(out, base, 1024)?;
-    largest(out, base, 1025)?;
-    largest(out, base, 4095)?;
-    largest(out, base, 4096)?;
-    largest(out, base, 4097)?;
-    largest(out, base, 66560)?;
-    largest(out, base, 69632)
-}
-
-fn windows(out: &mut impl Write, base: Five) -> io::Result<()> {
-    window(out, base, 1)?;
-    window(out, base, 2)?;
-    window(out, base, 16)?;
-    window(out, base, 17)?;
-    window(out, base, 258)?;
-    window(out, base, 4294967295)
-}
-
-fn around(out: &mut impl Write, base: Five) -> io::Result<()> {
-    addresses_and_modes(out, base)?;
-    subaddresses(out, base)?;
-    largests(out, base)?;
-    windows(out, base)
-}
-
-fn verdict(out: &mut impl Write, configured: bool) -> io::Result<()> {
-    if configured {
-        print::field(out, b"link")?;
-    } else {
-        print::field(out, b"none")?;
+// One number changed at a time.
+fn around(out: &mut impl Write, base: Settings) -> io::Result<()> {
+    for address in [0, 30, 31, 256] {
+        line(out, Settings { address, ..base })?;
     }
-    print::end(out)
+    for mode in [0, 1, 2, 256, 257] {
+        line(out, Settings { mode, ..base })?;
+    }
+    for subaddress in [0, 10, 11, 12, 26, 27, 267] {
+        line(out, Settings { subaddress, ..base })?;
+    }
+    for largest in [0, 1023, 1024, 1025, 4095, 4096, 4097, 66560, 69632] {
+        line(out, Settings { largest, ..base })?;
+    }
+    for window in [1, 2, 16, 17, 258, 4294967295] {
+        line(out, Settings { window, ..base })?;
+    }
+    Ok(())
 }
 
 // The same test over what a link holds.
-fn held_line(out: &mut impl Write, l: Link) -> io::Result<()> {
-    print::text(out, b"held")?;
-    print::number(out, l.address as u64)?;
-    print::number(out, l.mode as u64)?;
-    print::number(out, l.subaddress as u64)?;
-    print::number(out, l.largest as u64)?;
-    print::number(out, l.window as u64)?;
-    verdict(out, link::is_configured(l))
+fn held_line(out: &mut impl Write, link: Link) -> io::Result<()> {
+    let numbers = Numbers(Settings::from(link));
+    let verdict = if link::is_configured(link) {
+        "link"
+    } else {
+        "none"
+    };
+    writeln!(out, "held\t{numbers}\t{verdict}")
 }
 
 // A record of zeros, as storage is before configuring, is no link.
 fn held(out: &mut impl Write) -> io::Result<()> {
-    held_line(out, print::link_zero())?;
-    held_line(out, print::link_one())?;
-    held_line(
-        out,
-        Link {
-            address: 0,
-            mode: 0,
-            subaddress: 0,
-            largest: 0,
-            window: 0,
-        },
-    )?;
-    let mut wide = print::link_zero();
-    wide.largest = 4096;
-    held_line(out, wide)?;
-    let mut far = print::link_one();
-    far.address = 31;
-    held_line(out, far)
+    let zeros = Link {
+        address: 0,
+        mode: 0,
+        subaddress: 0,
+        largest: 0,
+        window: 0,
+    };
+    let wide = Link {
+        largest: 4096,
+        ..ZERO
+    };
+    let far = Link { address: 31, ..ONE };
+    for link in [ZERO, ONE, zeros, wide, far] {
+        held_line(out, link)?;
+    }
+    Ok(())
 }
 
 pub fn all(out: &mut impl Write) -> io::Result<()> {
-    around(
-        out,
-        Five {
-            address: 5,
-            mode: 0,
-            subaddress: 11,
-            largest: 1024,
-            window: 2,
-        },
-    )?;
-    around(
-        out,
-        Five {
-            address: 5,
-            mode: 1,
-            subaddress: 20,
-            largest: 4096,
-            window: 2,
-        },
-    )?;
+    for base in [ZERO, ONE] {
+        around(out, Settings::from(base))?;
+    }
     held(out)
 }

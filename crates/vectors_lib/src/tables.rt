@@ -1,288 +1,234 @@
 // Tables 8-3 to 8-6: every single-bit change of the descriptors of document 01, "Pairs at the edges", and what is made.
-use crate::print;
-use std::io;
+ghost use Rattle.std.specs.Prelude.{◌≡◌, ◌^◌, ◌/◌, ◌%◌, ◌<◌, ◌≤◌};
+ghost use Rattle.std.specs.Int.Bits.{bit_xor};
+
+use crate::print::{Answer, ONE, Pair, ZERO};
+use std::fmt::Display;
 use std::io::Write;
-use words::control::{
-    AcquisitionConfirmation, Descriptor, DistributionConfirmation, Quality, Request, Words,
-};
-use words::count::{AcquisitionCount, DistributionCount};
+use std::{fmt, io};
+use words::control::{Control, Quality, Words};
+use words::count::{AcquisitionCount, BlockCount, DistributionCount};
 use words::link::Link;
+use words::refusal::Refusal;
 use words::{control, reading};
 
-// Whose reading a vector is for.
+// What the top bit of the second word says.
+trait Mark: Copy {
+    fn name(self) -> &'static str;
+}
+
+impl Mark for Quality {
+    fn name(self) -> &'static str {
+        match self {
+            Quality::BestEffort => "b",
+            Quality::Verified => "v",
+        }
+    }
+}
+
+impl Mark for bool {
+    fn name(self) -> &'static str {
+        if self { "error" } else { "good" }
+    }
+}
+
+// What the words of a descriptor or a confirmation say.
 #[derive(Clone, Copy)]
-enum Table {
-    Descriptor,
-    Request,
-    Distribution,
-    Acquisition,
-}
+struct Said<M, C>(Control<M, C>);
 
-fn sized(out: &mut impl Write, quality: Quality, size: u16, count: u8) -> io::Result<()> {
-    print::field(out, b"block")?;
-    print::number(out, size as u64)?;
-    match quality {
-        Quality::BestEffort => print::field(out, b"b")?,
-        Quality::Verified => print::field(out, b"v")?,
-    }
-    print::number(out, count as u64)
-}
-
-fn marked(out: &mut impl Write, error: bool, size: u16, count: u8) -> io::Result<()> {
-    print::field(out, b"block")?;
-    print::number(out, size as u64)?;
-    if error {
-        print::field(out, b"error")?;
-    } else {
-        print::field(out, b"good")?;
-    }
-    print::number(out, count as u64)
-}
-
-fn descriptor(out: &mut impl Write, read: Descriptor) -> io::Result<()> {
-    match read {
-        Descriptor::Reset => print::field(out, b"reset"),
-        Descriptor::Block {
-            size,
-            quality,
-            count,
-        } => sized(out, quality, size, count.0),
-        Descriptor::Refused(n) => print::refused(out, n),
+impl<M: Mark, C: BlockCount + Copy> Display for Said<M, C> {
+    fn fmt<W: fmt::Write>(&self, f: &mut fmt::Formatter<W>) -> fmt::Result {
+        match self.0 {
+            Control::Reset => write!(f, "reset"),
+            Control::Block { size, mark, count } => {
+                write!(f, "block\t{size}\t{}\t{}", mark.name(), count.number())
+            }
+        }
     }
 }
 
-fn request(out: &mut impl Write, read: Request) -> io::Result<()> {
-    match read {
-        Request::Nothing => print::field(out, b"nothing"),
-        Request::Reset => print::field(out, b"reset"),
-        Request::Block {
-            size,
-            quality,
-            count,
-        } => sized(out, quality, size, count.0),
-        Request::Refused(n) => print::refused(out, n),
+// What the words of a request say, if there is one yet.
+#[derive(Clone, Copy)]
+struct Asked<C>(Option<Control<Quality, C>>);
+
+impl<C: BlockCount + Copy> Display for Asked<C> {
+    fn fmt<W: fmt::Write>(&self, f: &mut fmt::Formatter<W>) -> fmt::Result {
+        match self.0 {
+            None => write!(f, "nothing"),
+            Some(asked) => write!(f, "{}", Said(asked)),
+        }
     }
 }
 
-fn distribution(out: &mut impl Write, read: DistributionConfirmation) -> io::Result<()> {
-    match read {
-        DistributionConfirmation::Reset => print::field(out, b"reset"),
-        DistributionConfirmation::Block { size, error, count } => marked(out, error, size, count.0),
-        DistributionConfirmation::Refused(n) => print::refused(out, n),
+// Whose reading a vector is for: the first field of its line, and what the words say.
+trait Table {
+    type Found: Display + Copy;
+
+    const NAME: &'static str;
+
+    fn read(words: &[u16], link: Link) -> Result<Self::Found, Refusal>;
+}
+
+struct Descriptor;
+
+impl Table for Descriptor {
+    type Found = Said<Quality, DistributionCount>;
+
+    const NAME: &'static str = "descriptor";
+
+    fn read(words: &[u16], link: Link) -> Result<Self::Found, Refusal> {
+        reading::read_descriptor(words, link).map(Said)
     }
 }
 
-fn acquisition(out: &mut impl Write, read: AcquisitionConfirmation) -> io::Result<()> {
-    match read {
-        AcquisitionConfirmation::Reset => print::field(out, b"reset"),
-        AcquisitionConfirmation::Block { size, error, count } => marked(out, error, size, count.0),
-        AcquisitionConfirmation::Refused(n) => print::refused(out, n),
+struct Request;
+
+impl Table for Request {
+    type Found = Asked<AcquisitionCount>;
+
+    const NAME: &'static str = "request";
+
+    fn read(words: &[u16], link: Link) -> Result<Self::Found, Refusal> {
+        reading::read_request(words, link).map(Asked)
     }
 }
 
-fn descriptor_line(out: &mut impl Write, link: Link, words: Words) -> io::Result<()> {
-    print::text(out, b"descriptor")?;
-    print::pair(out, words)?;
-    let both = [words.first, words.second];
-    descriptor(out, reading::read_descriptor(&both, link))?;
-    print::end(out)
-}
+struct Distribution;
 
-fn request_line(out: &mut impl Write, link: Link, words: Words) -> io::Result<()> {
-    print::text(out, b"request")?;
-    print::pair(out, words)?;
-    let both = [words.first, words.second];
-    request(out, reading::read_request(&both, link))?;
-    print::end(out)
-}
+impl Table for Distribution {
+    type Found = Said<bool, DistributionCount>;
 
-fn distribution_line(out: &mut impl Write, link: Link, words: Words) -> io::Result<()> {
-    print::text(out, b"confirmation27")?;
-    print::pair(out, words)?;
-    let both = [words.first, words.second];
-    distribution(out, reading::read_distribution_confirmation(&both, link))?;
-    print::end(out)
-}
+    const NAME: &'static str = "confirmation27";
 
-fn acquisition_line(out: &mut impl Write, link: Link, words: Words) -> io::Result<()> {
-    print::text(out, b"confirmation28")?;
-    print::pair(out, words)?;
-    let both = [words.first, words.second];
-    acquisition(out, reading::read_acquisition_confirmation(&both, link))?;
-    print::end(out)
-}
-
-fn line(out: &mut impl Write, table: Table, link: Link, words: Words) -> io::Result<()> {
-    match table {
-        Table::Descriptor => descriptor_line(out, link, words),
-        Table::Request => request_line(out, link, words),
-        Table::Distribution => distribution_line(out, link, words),
-        Table::Acquisition => acquisition_line(out, link, words),
+    fn read(words: &[u16], link: Link) -> Result<Self::Found, Refusal> {
+        reading::read_confirmation(words, link).map(Said)
     }
 }
 
-// Each bit of the first word, the most significant first.
-fn flip_first(out: &mut impl Write, table: Table, link: Link, words: Words) -> io::Result<()> {
-    let mut bit: u16 = 32768;
-    while 0 < bit {
-        let changed = Words {
-            first: print::flipped(words.first, bit),
-            second: words.second,
-        };
-        line(out, table, link, changed)?;
-        bit = bit / 2;
+struct Acquisition;
+
+impl Table for Acquisition {
+    type Found = Said<bool, AcquisitionCount>;
+
+    const NAME: &'static str = "confirmation28";
+
+    fn read(words: &[u16], link: Link) -> Result<Self::Found, Refusal> {
+        reading::read_confirmation(words, link).map(Said)
+    }
+}
+
+fn line<T: Table>(out: &mut impl Write, link: Link, words: Words) -> io::Result<()> {
+    let read = T::read(&[words.first, words.second], link);
+    writeln!(out, "{}\t{}\t{}", T::NAME, Pair(words), Answer(read))
+}
+
+// Two words with one bit changed. Bit 0 is the lowest of the second word.
+fn flipped(words: Words, bit: u32) -> Words
+    requires { bit < 32 }
+    ensures first { result.first ≡ bit_xor words.first (2 ^ bit / 65536) }
+    ensures second { result.second ≡ bit_xor words.second (2 ^ bit % 65536) }
+{
+    let mask = 1u32 << bit;
+    Words {
+        first: words.first ^ (mask >> 16) as u16,
+        second: words.second ^ (mask & 0xFFFF) as u16,
+    }
+}
+
+// The words as they are, and with each of the lowest `bits` bits changed, the most significant first.
+fn flips<T: Table>(out: &mut impl Write, link: Link, words: Words, bits: u32) -> io::Result<()>
+    requires { bits ≤ 32 }
+{
+    line::<T>(out, link, words)?;
+    for bit in (0..bits).rev() {
+        line::<T>(out, link, flipped(words, bit))?;
     }
     Ok(())
 }
 
-// Each bit of the second word, the most significant first.
-fn flip_second(out: &mut impl Write, table: Table, link: Link, words: Words) -> io::Result<()> {
-    let mut bit: u16 = 32768;
-    while 0 < bit {
-        let changed = Words {
-            first: words.first,
-            second: print::flipped(words.second, bit),
-        };
-        line(out, table, link, changed)?;
-        bit = bit / 2;
+// Descriptors (a) to (d), and two of them in the other tables, which read the first word as the descriptor's.
+fn changes(out: &mut impl Write) -> io::Result<()> {
+    let (b, d) = ((ZERO, 0x0041, 0x0B01), (ONE, 0x0000, 0xB407));
+    for (link, first, second) in [(ZERO, 0x0000, 0x4B00), b, (ZERO, 0x0400, 0x8BFE), d] {
+        flips::<Descriptor>(out, link, Words { first, second }, 32)?;
+    }
+    for (link, first, second) in [b, d] {
+        let words = Words { first, second };
+        flips::<Request>(out, link, words, 16)?;
+        flips::<Distribution>(out, link, words, 16)?;
+        flips::<Acquisition>(out, link, words, 16)?;
     }
     Ok(())
-}
-
-fn descriptor_all(out: &mut impl Write, link: Link, words: Words) -> io::Result<()> {
-    line(out, Table::Descriptor, link, words)?;
-    flip_first(out, Table::Descriptor, link, words)?;
-    flip_second(out, Table::Descriptor, link, words)
-}
-
-// The three other tables, whose first word is read as the descriptor's.
-fn others(out: &mut impl Write, link: Link, words: Words) -> io::Result<()> {
-    line(out, Table::Request, link, words)?;
-    flip_second(out, Table::Request, link, words)?;
-    line(out, Table::Distribution, link, words)?;
-    flip_second(out, Table::Distribution, link, words)?;
-    line(out, Table::Acquisition, link, words)?;
-    flip_second(out, Table::Acquisition, link, words)
 }
 
 // Words that no single change of (a) to (d) gives, in every table.
-fn edge(out: &mut impl Write, link: Link, words: Words) -> io::Result<()> {
-    line(out, Table::Descriptor, link, words)?;
-    line(out, Table::Request, link, words)?;
-    line(out, Table::Distribution, link, words)?;
-    line(out, Table::Acquisition, link, words)
+// The last two: a first word alone, and a size over a link of mode 1 that has 1024 bytes.
+fn edges(out: &mut impl Write) -> io::Result<()> {
+    let narrow = Link {
+        largest: 1024,
+        ..ONE
+    };
+    let edges = [
+        (ZERO, 0x0000, 0x0000),
+        (ONE, 0x0000, 0x4B00),
+        (ZERO, 0xFFFF, 0xFFFF),
+        (ZERO, 0x0041, 0x0000),
+        (narrow, 0x0401, 0xB407),
+    ];
+    for (link, first, second) in edges {
+        let words = Words { first, second };
+        line::<Descriptor>(out, link, words)?;
+        line::<Request>(out, link, words)?;
+        line::<Distribution>(out, link, words)?;
+        line::<Acquisition>(out, link, words)?;
+    }
+    Ok(())
 }
 
-// A message of any number of words.
-fn length_line(out: &mut impl Write, link: Link, words: &[u16]) -> io::Result<()> {
-    print::text(out, b"words")?;
-    print::number(out, words.len() as u64)?;
-    descriptor(out, reading::read_descriptor(words, link))?;
-    print::end(out)
-}
-
-fn made(out: &mut impl Write, table: &[u8], words: Words) -> io::Result<()> {
-    print::text(out, b"made")?;
-    print::field(out, table)?;
-    print::pair(out, words)?;
-    print::end(out)
-}
-
-// The words of the descriptor and the request for one block.
-fn made_block(
+// The words of a block's descriptor and request, and of its two confirmations.
+fn made(
     out: &mut impl Write,
     link: Link,
     size: u16,
     quality: Quality,
-    count: u8,
-) -> io::Result<()> {
-    made(
-        out,
-        b"8-3",
-        control::descriptor_words(link, size, quality, DistributionCount(count)),
-    )?;
-    made(
-        out,
-        b"8-6",
-        control::request_words(link, size, quality, AcquisitionCount(count)),
-    )
-}
-
-// The words of its two confirmations.
-fn made_confirmation(
-    out: &mut impl Write,
-    link: Link,
-    size: u16,
-    error: bool,
     count: u8,
 ) -> io::Result<()> {
     let there = DistributionCount(count);
-    made(
-        out,
-        b"8-4",
-        control::distribution_confirmation_words(link, size, error, there),
-    )?;
     let back = AcquisitionCount(count);
-    made(
-        out,
-        b"8-5",
-        control::acquisition_confirmation_words(link, size, error, back),
-    )
-}
-
-fn made_all(
-    out: &mut impl Write,
-    link: Link,
-    size: u16,
-    quality: Quality,
-    count: u8,
-) -> io::Result<()> {
-    made_block(out, link, size, quality, count)?;
-    made_confirmation(out, link, size, control::is_verified(quality), count)
-}
-
-// Descriptors (a) to (d).
-fn flips(out: &mut impl Write, zero: Link, one: Link) -> io::Result<()> {
-    descriptor_all(out, zero, print::words_of(0x0000, 0x4B00))?;
-    descriptor_all(out, zero, print::words_of(0x0041, 0x0B01))?;
-    descriptor_all(out, zero, print::words_of(0x0400, 0x8BFE))?;
-    descriptor_all(out, one, print::words_of(0x0000, 0xB407))?;
-    others(out, zero, print::words_of(0x0041, 0x0B01))?;
-    others(out, one, print::words_of(0x0000, 0xB407))
-}
-
-// The last two: a first word alone, and a size over a link of mode 1 that has 1024 bytes.
-fn edges(out: &mut impl Write, zero: Link, one: Link) -> io::Result<()> {
-    edge(out, zero, print::words_of(0, 0))?;
-    edge(out, one, print::words_of(0, 0x4B00))?;
-    edge(out, zero, print::words_of(0xFFFF, 0xFFFF))?;
-    edge(out, zero, print::words_of(0x0041, 0x0000))?;
-    let mut narrow = one;
-    narrow.largest = 1024;
-    edge(out, narrow, print::words_of(0x0401, 0xB407))
+    let error = bool::from(quality);
+    let tables = [
+        ("8-3", control::block_words(link, size, quality, there)),
+        ("8-6", control::block_words(link, size, quality, back)),
+        ("8-4", control::confirmation_words(link, size, error, there)),
+        ("8-5", control::confirmation_words(link, size, error, back)),
+    ];
+    for (table, words) in tables {
+        writeln!(out, "made\t{table}\t{}", Pair(words))?;
+    }
+    Ok(())
 }
 
 // (a) to (d) as they are made.
-fn makes(out: &mut impl Write, zero: Link, one: Link) -> io::Result<()> {
-    made(out, b"reset", control::reset_words())?;
-    made_all(out, zero, 65, Quality::BestEffort, 1)?;
-    made_all(out, zero, 1024, Quality::Verified, 254)?;
-    made_all(out, one, 4096, Quality::Verified, 7)
+fn makes(out: &mut impl Write) -> io::Result<()> {
+    writeln!(out, "made\treset\t{}", Pair(control::reset_words()))?;
+    made(out, ZERO, 65, Quality::BestEffort, 1)?;
+    made(out, ZERO, 1024, Quality::Verified, 254)?;
+    made(out, ONE, 4096, Quality::Verified, 7)
 }
 
-fn lengths(out: &mut impl Write, link: Link) -> io::Result<()> {
-    let three: [u16; 3] = [0x0041, 0x0B01, 0];
-    length_line(out, link, &three[..0])?;
-    length_line(out, link, &three[..1])?;
-    length_line(out, link, &three[..2])?;
-    length_line(out, link, &three)
+// A message of any number of words.
+fn lengths(out: &mut impl Write) -> io::Result<()> {
+    let words = [0x0041, 0x0B01, 0x0000];
+    for length in 0..=words.len() {
+        let read = Descriptor::read(&words[..length], ZERO);
+        writeln!(out, "words\t{length}\t{}", Answer(read))?;
+    }
+    Ok(())
 }
 
 pub fn all(out: &mut impl Write) -> io::Result<()> {
-    let zero = print::link_zero();
-    let one = print::link_one();
-    flips(out, zero, one)?;
-    edges(out, zero, one)?;
-    makes(out, zero, one)?;
-    lengths(out, zero)
+    changes(out)?;
+    edges(out)?;
+    makes(out)?;
+    lengths(out)
 }

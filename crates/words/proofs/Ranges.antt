@@ -1,8 +1,10 @@
 -- What a configuration's test says of its numbers.
 -- Assumes nothing.
-use Rattle.std.proofs.Common.{◌≡◌, ℕ, ◌≤◌, Bool, true, false, ◌&&◌, ◌||◌, eqb, leb, ◌⊎◌, refl, inl, inr, arith, eqb-true, leb-true}
-use Rattle.words.specs.Link.{mode_allows, in_ranges, configured_of}
+use Rattle.std.proofs.Common.{◌≡◌, ℕ, ◌≤◌, Bool, true, false, ◌&&◌, ◌||◌, eqb, leb, ◌⊎◌, refl, inl, inr, arith, eqb-true, eq-eqb, leb-true}
+use Rattle.words.specs.Link.{mode_allows, in_ranges, configured_of, settings_of, mode_of}
+use Rattle.words.specs.declared.link.Mode.{Mode}
 use Rattle.words.specs.declared.link.Link.{Link}
+use Rattle.words.specs.declared.link.Settings.{Settings}
 
 -- a test and its other outcome, apart
 pub by : {G : Type 0} (t : Bool) → (t ≡ true → G) → (t ≡ false → G) → G
@@ -61,16 +63,16 @@ pub record Ranges (a m s l w : ℕ) : Type 0 where
   pub least : 1024 ≤ l
   pub most : l ≤ 4096
 
-pub ranges : (address mode subaddress largest window : ℕ) → in_ranges address mode subaddress largest window ≡ true
-    → Ranges address mode subaddress largest window
+pub ranges : (s : Settings) → in_ranges s ≡ true → Ranges s.address s.mode s.subaddress s.largest s.window
 unfolding in_ranges
-ranges a m s l w e =
-    let p = both (leb a 30) _ e in
-    let q = both (leb 2 w) _ p.1 in
-    let r = both (leb w 16) _ q.1 in
-    bounds (leb-true a 30 p.0) (leb-true 2 w q.0) (leb-true w 16 r.0) (modes m s l r.1)
+ranges s e =
+    let p = both (leb s.address 30) _ e in
+    let q = both (leb 2 s.window) _ p.1 in
+    let r = both (leb s.window 16) _ q.1 in
+    bounds (leb-true s.address 30 p.0) (leb-true 2 s.window q.0) (leb-true s.window 16 r.0) (modes s.mode s.subaddress s.largest r.1)
   where
-    bounds : a ≤ 30 → 2 ≤ w → w ≤ 16 → Sixteen m s l ⊎ One m s l → Ranges a m s l w
+    bounds : s.address ≤ 30 → 2 ≤ s.window → s.window ≤ 16 → Sixteen s.mode s.subaddress s.largest ⊎ One s.mode s.subaddress s.largest
+        → Ranges s.address s.mode s.subaddress s.largest s.window
     bounds x y z (inl k) =
         record { address = x; shortest = y; longest = z; mode = omega arith; from = omega arith; to = omega arith; least = omega arith; most = omega arith }
     bounds x y z (inr k) =
@@ -85,18 +87,28 @@ ranges a m s l w e =
           most = most_is k.largest;
         }
       where
-        least_is : (l ≡ 1024) ⊎ (l ≡ 4096) → 1024 ≤ l
+        least_is : (s.largest ≡ 1024) ⊎ (s.largest ≡ 4096) → 1024 ≤ s.largest
         least_is (inl h) = omega arith
         least_is (inr h) = omega arith
 
-        most_is : (l ≡ 1024) ⊎ (l ≡ 4096) → l ≤ 4096
+        most_is : (s.largest ≡ 1024) ⊎ (s.largest ≡ 4096) → s.largest ≤ 4096
         most_is (inl h) = omega arith
         most_is (inr h) = omega arith
+
+-- which number a mode is
+pub mode_zero : (link : Link) (m : Mode) → m ≡ mode_of link → m ≡ Mode.Zero → link.mode ≡ 0
+mode_zero link m e z =
+    by (eqb link.mode 0) (λ t. eqb-true link.mode 0 t) (λ f. absurd (let c = rw (z, f) at e in let n : ◌≡◌ {A = ℕ} 0 1 = cc in omega arith))
+
+pub mode_one : (link : Link) (m : Mode) → m ≡ mode_of link → m ≡ Mode.One → link.mode ≡ 0 → ⊥
+mode_one link m e o z =
+    let t = eq-eqb link.mode 0 z in
+    let c = rw (o, t) at e in let n : ◌≡◌ {A = ℕ} 0 1 = cc in omega arith
 
 pub link_ranges : (link : Link) → configured_of link ≡ true
     → Ranges link.address link.mode link.subaddress link.largest link.window
 unfolding configured_of
-link_ranges link e = ranges link.address link.mode link.subaddress link.largest link.window e
+link_ranges link e = ranges (settings_of link) e
 
 -- the largest block is 1024 or 4096
 pub largest_cases : (link : Link) → configured_of link ≡ true → (link.largest ≡ 1024) ⊎ (link.largest ≡ 4096)

@@ -1,25 +1,22 @@
 -- Reading what was made gives back what went in, on every link and in all four tables; so what is refused is never made.
 -- Assumes nothing.
-use Rattle.std.proofs.Common.{◌≡◌, ℕ, ◌+◌, ◌*◌, ◌/◌, ◌%◌, ◌<◌, ◌≤◌, Bool, true, false, eqb, ltb, ◌⊎◌, refl, inl, inr, ⊎_elim, eq-or-lt_of_le, arith, ltb-false, le-ltb, eq-eqb, ne_eqb, eqb-true}
+use Rattle.std.proofs.Common.{◌≡◌, ℕ, ◌+◌, ◌*◌, ◌/◌, ◌%◌, ◌<◌, ◌≤◌, Bool, true, false, Some, Ok, Err, eqb, ltb, ◌⊎◌, refl, inl, inr, ⊎_elim, eq-or-lt_of_le, arith, ltb-false, le-ltb, eq-eqb, ne_eqb, eqb-true}
 use borrow.Author.Tests.{eqb-false}
 use Rattle.words.specs.Allowed.{Allowed}
 use Rattle.words.specs.Cutting.{size_answer_of}
 use Rattle.words.specs.Control.{bit_of, verified_of, quality_of, made_of, reset_words, list_of, descriptor_words, request_words, distribution_confirmation_words, acquisition_confirmation_words}
-use Rattle.words.specs.Reading.{size_of, over_of, plain_of, control_of, read_of, sized_of, nothing_yet_of}
-use Rattle.words.specs.Reading.{read_descriptor_of, read_request_of, read_distribution_confirmation_of, read_acquisition_confirmation_of}
-use Rattle.words.specs.declared.answer.Answer.TheVariants as Answer
-use Rattle.words.specs.declared.answer.Answer.TheVariants.{Accepted}
+use Rattle.words.specs.Count.{distribution_count, acquisition_count}
+use Rattle.words.specs.Reading.{size_of, over_of, plain_of, control_of, read_of, sized_of, after, nothing_yet_of}
+use Rattle.words.specs.Reading.{read_descriptor_of, read_request_of, read_confirmation_of}
+use Rattle.words.specs.Refusal.{Answer}
+use Rattle.words.specs.declared.refusal.Refusal.{Refusal}
 use Rattle.words.specs.declared.count.DistributionCount.{DistributionCount}
 use Rattle.words.specs.declared.count.AcquisitionCount.{AcquisitionCount}
 use Rattle.words.specs.declared.link.Link.{Link}
 use Rattle.words.specs.declared.control.Words.{Words}
-use Rattle.words.specs.declared.control.Control.TheVariants.{Reset, Block, Refused}
+use Rattle.words.specs.declared.control.Control.TheVariants.{Reset, Block}
 use Rattle.words.specs.declared.control.Quality.{Quality}
 use Rattle.words.specs.declared.control.Quality.TheVariants.{BestEffort, Verified}
-use Rattle.words.specs.declared.control.Descriptor.TheVariants as D
-use Rattle.words.specs.declared.control.Request.TheVariants as R
-use Rattle.words.specs.declared.control.DistributionConfirmation.TheVariants as DC
-use Rattle.words.specs.declared.control.AcquisitionConfirmation.TheVariants as Ac
 use Rattle.words.proofs.Bounds.{bit_le}
 use Rattle.words.proofs.Ranges.{link_ranges, by}
 
@@ -68,14 +65,14 @@ pub record Sized (link : Link) (size : ℕ) : Type 0 where
   pub some : 1 ≤ size
   pub most : size ≤ link.largest
 
-refused_not : (n : ℕ) → Answer.Refused n ≡ Accepted → ⊥
-refused_not n e = let z : ◌≡◌ {A = ℕ} 0 1 = cc in omega arith
+refused_not : (r : Refusal) → ◌≡◌ {A = Answer} (Err r) (Ok tt) → ⊥
+refused_not r e = let z : ◌≡◌ {A = ℕ} 0 1 = cc in omega arith
 
-pub sized : (link : Link) (size : ℕ) → size_answer_of link size ≡ Accepted → Sized link size
+pub sized : (link : Link) (size : ℕ) → size_answer_of link size ≡ Ok tt → Sized link size
 unfolding size_answer_of
 sized link size e =
-    by (eqb size 0) (λ z. absurd (refused_not 3 (rw z at e))) (λ z.
-    by (ltb link.largest size) (λ o. absurd (refused_not 3 (rw (z, o) at e)))
+    by (eqb size 0) (λ z. absurd (refused_not _ (rw z at e))) (λ z.
+    by (ltb link.largest size) (λ o. absurd (refused_not _ (rw (z, o) at e)))
     (λ o. record { some = some_is z; most = ltb-false link.largest size o }))
   where
     some_is : eqb size 0 ≡ false → 1 ≤ size
@@ -93,7 +90,7 @@ not_over largest limit size h =
 
 module _ (link : Link) (size : ℕ) (flag : Bool) (count : ℕ) (ok : Allowed link size count) where
   -- 6 to 9
-  pub read_made : read_of (list_of (made_of link size flag count)) link ≡ Block size flag count
+  pub read_made : read_of (list_of (made_of link size flag count)) link ≡ Ok (Block size flag count)
   unfolding made_of read_of control_of plain_of
   read_made =
       let r = link_ranges link ok.configured in
@@ -113,7 +110,7 @@ module _ (link : Link) (size : ℕ) (flag : Bool) (count : ℕ) (ok : Allowed li
       )
 
   -- 10 to 12
-  pub sized_made : sized_of (Block size flag count) link ≡ Block size flag count
+  pub sized_made : sized_of (Block size flag count) link ≡ Ok (Block size flag count)
   unfolding sized_of
   sized_made =
       let t = sized link size ok.fits in
@@ -133,15 +130,15 @@ made_something link size flag count h =
 
 -- Table 8-3
 pub descriptor_back : (link : Link) (size : ℕ) (quality : Quality) (count : DistributionCount) → Allowed link size count.0
-    → read_descriptor_of (list_of (descriptor_words link size quality count)) link ≡ D.Block size quality count
+    → read_descriptor_of distribution_count (list_of (descriptor_words link size quality count)) link ≡ Ok (Block size quality count)
 unfolding read_descriptor_of
 descriptor_back link size quality count ok =
     rw (read_made link size (verified_of quality) count.0 ok, sized_made link size (verified_of quality) count.0 ok, quality_back quality)
 
 -- Table 8-6
 pub request_back : (link : Link) (size : ℕ) (quality : Quality) (count : AcquisitionCount) → Allowed link size count.0
-    → read_request_of (list_of (request_words link size quality count)) link ≡ R.Block size quality count
-unfolding read_request_of
+    → read_request_of acquisition_count (list_of (request_words link size quality count)) link ≡ Ok (Some (Block size quality count))
+unfolding read_request_of read_descriptor_of
 request_back link size quality count ok =
     rw (
       made_something link size (verified_of quality) count.0 ok.some,
@@ -152,53 +149,52 @@ request_back link size quality count ok =
 
 -- Table 8-4
 pub distribution_confirmation_back : (link : Link) (size : ℕ) (error : Bool) (count : DistributionCount) → Allowed link size count.0
-    → read_distribution_confirmation_of (list_of (distribution_confirmation_words link size error count)) link ≡ DC.Block size error count
-unfolding read_distribution_confirmation_of
+    → read_confirmation_of distribution_count (list_of (distribution_confirmation_words link size error count)) link
+    ≡ Ok (Block size error count)
+unfolding read_confirmation_of
 distribution_confirmation_back link size error count ok = rw (read_made link size error count.0 ok)
 
 -- Table 8-5
 pub acquisition_confirmation_back : (link : Link) (size : ℕ) (error : Bool) (count : AcquisitionCount) → Allowed link size count.0
-    → read_acquisition_confirmation_of (list_of (acquisition_confirmation_words link size error count)) link ≡ Ac.Block size error count
-unfolding read_acquisition_confirmation_of
+    → read_confirmation_of acquisition_count (list_of (acquisition_confirmation_words link size error count)) link
+    ≡ Ok (Block size error count)
+unfolding read_confirmation_of
 acquisition_confirmation_back link size error count ok = rw (read_made link size error count.0 ok)
 
--- Reset, on any link, configured or not
-pub reset_descriptor_back : (link : Link) → read_descriptor_of (list_of reset_words) link ≡ D.Reset
+-- Reset, on any link, configured or not, in either direction
+pub reset_descriptor_back : {C : Type 0} (counted : ℕ → C) (link : Link) → read_descriptor_of counted (list_of reset_words) link ≡ Ok Reset
 unfolding read_descriptor_of read_of control_of sized_of
-reset_descriptor_back link = refl
+reset_descriptor_back counted link = refl
 
-pub reset_request_back : (link : Link) → read_request_of (list_of reset_words) link ≡ R.Reset
-unfolding read_request_of read_of control_of sized_of nothing_yet_of
-reset_request_back link = refl
+pub reset_request_back : {C : Type 0} (counted : ℕ → C) (link : Link) → read_request_of counted (list_of reset_words) link ≡ Ok (Some Reset)
+unfolding read_request_of read_descriptor_of read_of control_of sized_of nothing_yet_of
+reset_request_back counted link = refl
 
-pub reset_distribution_back : (link : Link) → read_distribution_confirmation_of (list_of reset_words) link ≡ DC.Reset
-unfolding read_distribution_confirmation_of read_of control_of
-reset_distribution_back link = refl
-
-pub reset_acquisition_back : (link : Link) → read_acquisition_confirmation_of (list_of reset_words) link ≡ Ac.Reset
-unfolding read_acquisition_confirmation_of read_of control_of
-reset_acquisition_back link = refl
+pub reset_confirmation_back : {C : Type 0} (counted : ℕ → C) (link : Link) → read_confirmation_of counted (list_of reset_words) link ≡ Ok Reset
+unfolding read_confirmation_of read_of control_of
+reset_confirmation_back counted link = refl
 
 -- ---- what is refused is never made
 
-reset_read : (link : Link) → sized_of (read_of (list_of reset_words) link) link ≡ Reset
+reset_read : (link : Link) → after (read_of (list_of reset_words) link) (λ control. sized_of control link) ≡ Ok Reset
 unfolding read_of control_of sized_of
 reset_read link = refl
 
 -- words that any of the four readings refuses are not those of a block that the link allows, nor Reset: the readings of
--- confirmations are `read_of`, those of a descriptor and a request are `sized_of` over it, and a refusal by the first is one by the second
-pub never_made : (link : Link) (words : Words) (n size : ℕ) (flag : Bool) (count : ℕ) → sized_of (read_of (list_of words) link) link ≡ Refused n
+-- confirmations are `read_of`, those of a descriptor and a request are `sized_of` after it, and a refusal by the first is one by the second
+pub never_made : (link : Link) (words : Words) (r : Refusal) (size : ℕ) (flag : Bool) (count : ℕ)
+    → after (read_of (list_of words) link) (λ control. sized_of control link) ≡ Err r
     → (Allowed link size count × (words ≡ made_of link size flag count)) ⊎ (words ≡ reset_words) → ⊥
-never_made link words n size flag count e (inl (ok, w)) =
+never_made link words r size flag count e (inl (ok, w)) =
     let f = rw w at e in
     let a = read_made link size flag count ok in
     let b = sized_made link size flag count ok in
     let z : ◌≡◌ {A = ℕ} 0 1 = cc in omega arith
-never_made link words n size flag count e (inr w) =
+never_made link words r size flag count e (inr w) =
     let f = rw w at e in
     let a = reset_read link in
     let z : ◌≡◌ {A = ℕ} 0 1 = cc in omega arith
 
-pub refused_first : (words : Words) (link : Link) (n : ℕ) → read_of (list_of words) link ≡ Refused n → sized_of (read_of (list_of words) link) link ≡ Refused n
-unfolding sized_of
-refused_first words link n e = rw e
+pub refused_first : (words : Words) (link : Link) (r : Refusal) → read_of (list_of words) link ≡ Err r
+    → after (read_of (list_of words) link) (λ control. sized_of control link) ≡ Err r
+refused_first words link r e = rw e

@@ -33,21 +33,29 @@ made_of link size flag count =
 abbrev pub reset_words : Words
 reset_words = record { first = 0x0000; second = 0x4B00 }
 
+-- Tables 8-3 and 8-6, of a block that is offered
+abbrev pub block_words : Link → ℕ → Quality → ℕ → Words
+block_words link size quality count = made_of link size (verified_of quality) count
+
+-- Tables 8-4 and 8-5, of a block that was handled
+abbrev pub confirmation_words : Link → ℕ → Bool → ℕ → Words
+confirmation_words link size error count = made_of link size error count
+
 -- Table 8-3
 abbrev pub descriptor_words : Link → ℕ → Quality → DistributionCount → Words
-descriptor_words link size quality count = made_of link size (verified_of quality) count.0
+descriptor_words link size quality count = block_words link size quality count.0
 
 -- Table 8-6
 abbrev pub request_words : Link → ℕ → Quality → AcquisitionCount → Words
-request_words link size quality count = made_of link size (verified_of quality) count.0
+request_words link size quality count = block_words link size quality count.0
 
 -- Table 8-4
 abbrev pub distribution_confirmation_words : Link → ℕ → Bool → DistributionCount → Words
-distribution_confirmation_words link size error count = made_of link size error count.0
+distribution_confirmation_words link size error count = confirmation_words link size error count.0
 
 -- Table 8-5
 abbrev pub acquisition_confirmation_words : Link → ℕ → Bool → AcquisitionCount → Words
-acquisition_confirmation_words link size error count = made_of link size error count.0
+acquisition_confirmation_words link size error count = confirmation_words link size error count.0
 
 -- the words of a message, as they are sent
 abbrev pub list_of : Words → List ℕ

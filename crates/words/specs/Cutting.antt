@@ -1,14 +1,14 @@
 -- Cutting a block into messages (document 01, "Words on the bus"; 001 clauses 8.6.1.1 g to l, 8.6.2.2 g to l).
 -- Assumes nothing.
-use Rattle.std.specs.Prelude.{ℕ, zero, suc, ◌+◌, ◌-◌, ◌*◌, ◌/◌, min, Bool, cond, not, ◌&&◌, ◌||◌, List, [], ◌∷◌, length, take, drop, ◌==◌, nat_le, nat_lt}
+use Rattle.std.specs.Prelude.{ℕ, zero, suc, ◌+◌, ◌-◌, ◌*◌, ◌/◌, min, Bool, cond, not, ◌&&◌, ◌||◌, List, [], ◌∷◌, Ok, Err, length, take, drop, ◌==◌, nat_le, nat_lt}
 use Rattle.words.specs.Bytes.{words_of}
-use Rattle.words.specs.declared.answer.Answer.{Answer}
-use Rattle.words.specs.declared.answer.Answer.TheVariants.{Accepted, Refused}
+use Rattle.words.specs.Refusal.{Answer}
+use Rattle.words.specs.declared.refusal.Refusal.TheVariants.{BadSize, BadMessage}
 use Rattle.words.specs.declared.link.Link.{Link}
 
 -- 3: a block, or a size asked about, of 0 bytes or over the link's largest
 unfoldable pub size_answer_of : Link → ℕ → Answer
-size_answer_of link size = cond (size == 0 || nat_lt link.largest size) (Refused 3) Accepted
+size_answer_of link size = cond (size == 0 || nat_lt link.largest size) (Err BadSize) (Ok tt)
 
 -- 64 bytes to a message, the last one shorter
 unfoldable pub messages_of : ℕ → ℕ
@@ -28,7 +28,7 @@ uses_of link subaddress = cond (link.mode == 0) (nat_le 11 subaddress && nat_le 
 -- 19: a data message of 0 or over 32 words, or to a subaddress the link does not use
 unfoldable pub data_answer_of : Link → ℕ → ℕ → Answer
 data_answer_of link subaddress words =
-    cond (words == 0 || (nat_lt 32 words || not (uses_of link subaddress))) (Refused 19) Accepted
+    cond (words == 0 || (nat_lt 32 words || not (uses_of link subaddress))) (Err BadMessage) (Ok tt)
 
 -- the bytes of message k, from 0: those of the block from 64 * k on, 64 at most
 unfoldable pub part_of : List ℕ → ℕ → List ℕ

@@ -1,7 +1,7 @@
 -- Cases a to k of document 01, "Pairs at the edges": what the definitions give, and what the paper says.
 -- Assumes nothing.
 use Rattle.std.specs.Prelude.{ℕ, zero, suc, List, [], ◌∷◌}
-use Rattle.words.specs.Answer.{number_of}
+use Rattle.words.specs.Refusal.{number_of}
 use Rattle.words.specs.Count.{next_distribution, next_acquisition, distribution_count, acquisition_count}
 use Rattle.words.specs.Control.{reset_words, descriptor_words, list_of}
 use Rattle.words.specs.Reading.{read_descriptor_of, descriptor_numbers}
@@ -31,13 +31,13 @@ each_words size = words_from size 0 (messages_of size)
 abbrev pub edges : List Row
 edges =
     record { given = list_of reset_words; paper = 0x0000 ∷ 0x4B00 ∷ [] }  -- a
-    ∷ record { given = descriptor_numbers (read_descriptor_of (0x0000 ∷ 0x4B00 ∷ []) sixteen); paper = 0 ∷ 0 ∷ 0 ∷ 0 ∷ [] }
+    ∷ record { given = descriptor_numbers (read_descriptor_of distribution_count (0x0000 ∷ 0x4B00 ∷ []) sixteen); paper = 0 ∷ 0 ∷ 0 ∷ 0 ∷ [] }
     ∷ record { given = list_of (descriptor_words sixteen 65 BestEffort (distribution_count 1)); paper = 0x0041 ∷ 0x0B01 ∷ [] }  -- b
-    ∷ record { given = descriptor_numbers (read_descriptor_of (0x0041 ∷ 0x0B01 ∷ []) sixteen); paper = 0 ∷ 65 ∷ 0 ∷ 1 ∷ [] }
+    ∷ record { given = descriptor_numbers (read_descriptor_of distribution_count (0x0041 ∷ 0x0B01 ∷ []) sixteen); paper = 0 ∷ 65 ∷ 0 ∷ 1 ∷ [] }
     ∷ record { given = list_of (descriptor_words sixteen 1024 Verified (distribution_count 254)); paper = 0x0400 ∷ 0x8BFE ∷ [] }  -- c
-    ∷ record { given = descriptor_numbers (read_descriptor_of (0x0400 ∷ 0x8BFE ∷ []) sixteen); paper = 0 ∷ 1024 ∷ 1 ∷ 254 ∷ [] }
+    ∷ record { given = descriptor_numbers (read_descriptor_of distribution_count (0x0400 ∷ 0x8BFE ∷ []) sixteen); paper = 0 ∷ 1024 ∷ 1 ∷ 254 ∷ [] }
     ∷ record { given = list_of (descriptor_words one 4096 Verified (distribution_count 7)); paper = 0x0000 ∷ 0xB407 ∷ [] }  -- d
-    ∷ record { given = descriptor_numbers (read_descriptor_of (0x0000 ∷ 0xB407 ∷ []) one); paper = 0 ∷ 4096 ∷ 1 ∷ 7 ∷ [] }
+    ∷ record { given = descriptor_numbers (read_descriptor_of distribution_count (0x0000 ∷ 0xB407 ∷ []) one); paper = 0 ∷ 4096 ∷ 1 ∷ 7 ∷ [] }
     ∷ record { given = each_words 64; paper = 32 ∷ [] }  -- e
     ∷ record { given = each_words 65; paper = 32 ∷ 1 ∷ [] }  -- f
     ∷ record { given = each_words 1; paper = 1 ∷ [] }  -- g

@@ -1,4 +1,4 @@
-pub mod Answer
+pub mod Refusal
 pub mod Count
 pub mod Tick
 pub mod Link

@@ -3,13 +3,13 @@ ghost use Rattle.std.specs.Prelude.{◌≡◌};
 ghost use Rattle.words.specs.Command.{command_words, read_command_of};
 
 use crate::control::Words;
+use crate::refusal::Refusal;
 
 // What a message to SA 1R means to the acquisition protocol.
 #[derive(Clone, Copy)]
 pub enum Command {
     Reset,
     Other,
-    Refused(u8),
 }
 
 // What the controller sends.
@@ -24,20 +24,17 @@ pub fn command_words() -> Words
 
 // The second word is the Reset Services command, and its bit 15 is this protocol's; the rest is for others to read.
 #[tactic(auto, unfolding(crate::specs::Command::read_command_of))]
-pub fn read_command(words: &[u16]) -> Command
+pub fn read_command(words: &[u16]) -> Result<Command, Refusal>
     ensures { result ≡ read_command_of words.now }
 {
-    if words.len() == 0 {
-        return Command::Refused(19);
-    }
-    if 32 < words.len() {
-        return Command::Refused(19);
+    if !(1..=32).contains(&words.len()) {
+        return Err(Refusal::BadMessage);
     }
     if words.len() < 2 {
-        return Command::Other;
+        return Ok(Command::Other);
     }
     if words[1] % 2 == 1 {
-        return Command::Reset;
+        return Ok(Command::Reset);
     }
-    Command::Other
+    Ok(Command::Other)
 }

@@ -1,9 +1,8 @@
 // The two words of a descriptor, a request and a confirmation: one layout for Tables 8-3, 8-4, 8-5 and 8-6.
 ghost use Rattle.std.specs.Prelude.{◌≡◌};
-ghost use Rattle.words.specs.Control.{bit_of, verified_of, quality_of, made_of, reset_words};
-ghost use Rattle.words.specs.Control.{descriptor_words, request_words, distribution_confirmation_words, acquisition_confirmation_words};
+ghost use Rattle.words.specs.Control.{bit_of, verified_of, quality_of, made_of, reset_words, block_words, confirmation_words};
 
-use crate::count::{AcquisitionCount, DistributionCount};
+use crate::count::BlockCount;
 use crate::link::Link;
 
 #[derive(Clone, Copy)]
@@ -19,132 +18,66 @@ pub enum Quality {
     Verified,
 }
 
-// What two words say, whichever the table: the top bit of the second word is QoS in 8-3 and 8-6, Error in 8-4 and 8-5.
+// What two words say, whichever the table. The mark is the top bit of the second word, the count the last byte.
 #[derive(Clone, Copy)]
-pub enum Control {
+pub enum Control<M, C> {
     Reset,
-    Block { size: u16, flag: bool, count: u8 },
-    Refused(u8),
+    Block { size: u16, mark: M, count: C },
 }
 
-// Table 8-3.
-#[derive(Clone, Copy)]
-pub enum Descriptor {
-    Reset,
-    Block {
-        size: u16,
-        quality: Quality,
-        count: DistributionCount,
-    },
-    Refused(u8),
-}
+// Tables 8-3 and 8-6: the mark is QoS.
+pub type Descriptor<C> = Control<Quality, C>;
 
-// Table 8-6. Two zero words are no request yet.
-#[derive(Clone, Copy)]
-pub enum Request {
-    Nothing,
-    Reset,
-    Block {
-        size: u16,
-        quality: Quality,
-        count: AcquisitionCount,
-    },
-    Refused(u8),
-}
+// Tables 8-4 and 8-5: the mark is Error.
+pub type Confirmation<C> = Control<bool, C>;
 
-// Table 8-4.
-#[derive(Clone, Copy)]
-pub enum DistributionConfirmation {
-    Reset,
-    Block {
-        size: u16,
-        error: bool,
-        count: DistributionCount,
-    },
-    Refused(u8),
-}
+impl From<Quality> for bool {
+    ghost from_gives = { λ quality verified. verified ≡ verified_of quality };
 
-// Table 8-5.
-#[derive(Clone, Copy)]
-pub enum AcquisitionConfirmation {
-    Reset,
-    Block {
-        size: u16,
-        error: bool,
-        count: AcquisitionCount,
-    },
-    Refused(u8),
-}
-
-pub fn is_verified(quality: Quality) -> bool
-    ensures { result ≡ verified_of quality }
-{
-    match quality {
-        Quality::BestEffort => false,
-        Quality::Verified => true,
+    fn from(quality: Quality) -> bool {
+        match quality {
+            Quality::BestEffort => false,
+            Quality::Verified => true,
+        }
     }
 }
 
-pub fn quality_of(verified: bool) -> Quality
-    ensures { result ≡ quality_of verified }
-{
-    if verified {
-        return Quality::Verified;
-    }
-    Quality::BestEffort
-}
+impl From<bool> for Quality {
+    ghost from_gives = { λ verified quality. quality ≡ quality_of verified };
 
-fn bit(flag: bool) -> u16
-    ensures { result ≡ bit_of flag }
-{
-    if flag { 1 } else { 0 }
+    fn from(verified: bool) -> Quality {
+        if verified {
+            return Quality::Verified;
+        }
+        Quality::BestEffort
+    }
 }
 
 // The words of a link's block.
 #[tactic(auto, unfolding(crate::specs::Control::made_of))]
-fn made(link: Link, size: u16, flag: bool, count: u8) -> Words
-    ensures { result ≡ made_of link size flag count }
+fn made(link: Link, size: u16, mark: bool, count: u8) -> Words
+    ensures { result ≡ made_of link size mark count }
 {
-    let mode = (link.mode % 2) as u16;
-    let subaddress = (link.subaddress % 32) as u16;
+    let mode = u16::from(link.mode % 2);
+    let subaddress = u16::from(link.subaddress % 32);
     Words {
         first: size % 4096,
-        second: bit(flag) * 32768 + mode * 8192 + subaddress * 256 + (count as u16),
+        second: u16::from(mark) * 32768 + mode * 8192 + subaddress * 256 + u16::from(count),
     }
 }
 
-pub fn descriptor_words(link: Link, size: u16, quality: Quality, count: DistributionCount) -> Words
-    ensures { result ≡ descriptor_words link size quality count }
+// Tables 8-3 and 8-6: of a block that is offered.
+pub fn block_words<C: BlockCount>(link: Link, size: u16, quality: Quality, count: C) -> Words
+    ensures { result ≡ block_words link size quality (C.number count) }
 {
-    made(link, size, is_verified(quality), count.0)
+    made(link, size, bool::from(quality), count.number())
 }
 
-pub fn request_words(link: Link, size: u16, quality: Quality, count: AcquisitionCount) -> Words
-    ensures { result ≡ request_words link size quality count }
+// Tables 8-4 and 8-5: of a block that was handled.
+pub fn confirmation_words<C: BlockCount>(link: Link, size: u16, error: bool, count: C) -> Words
+    ensures { result ≡ confirmation_words link size error (C.number count) }
 {
-    made(link, size, is_verified(quality), count.0)
-}
-
-pub fn distribution_confirmation_words(
-    link: Link,
-    size: u16,
-    error: bool,
-    count: DistributionCount,
-) -> Words
-    ensures { result ≡ distribution_confirmation_words link size error count }
-{
-    made(link, size, error, count.0)
-}
-
-pub fn acquisition_confirmation_words(
-    link: Link,
-    size: u16,
-    error: bool,
-    count: AcquisitionCount,
-) -> Words
-    ensures { result ≡ acquisition_confirmation_words link size error count }
-{
-    made(link, size, error, count.0)
+    made(link, size, error, count.number())
 }
 
 // A Reset in any of the four tables: SIZE, QoS or Error, Mode and count 0, and SA 11.

@@ -2,12 +2,12 @@
 // (document 01, "Words on the bus" and "The two machines"). No function here touches memory.
 #![tactic(auto)]
 
-pub mod answer;
 pub mod command;
 pub mod control;
 pub mod count;
 pub mod cutting;
 pub mod link;
 pub mod reading;
+pub mod refusal;
 pub mod status;
 pub mod tick;

@@ -1,6 +1,8 @@
 // What both ends know of a link (document 01, "The two machines").
 ghost use Rattle.std.specs.Prelude.{◌≡◌};
-ghost use Rattle.words.specs.Link.{mode_allows, in_ranges, configure_of, no_link, configured_of, message_store_of, block_store_of};
+ghost use Rattle.words.specs.Link.{mode_allows, in_ranges, configure_of, no_link, settings_of, configured_of, mode_of, short_of, message_store_of, block_store_of};
+
+use crate::refusal::Refusal;
 
 #[derive(Clone, Copy)]
 pub struct Link {
@@ -11,11 +13,35 @@ pub struct Link {
     pub window: u8,
 }
 
-// A link within the ranges, or refusal 20.
+// Mode 0 has sixteen subaddresses, each with its place; mode 1 has one, whose messages follow on each other.
 #[derive(Clone, Copy)]
-pub enum Configuring {
-    Configured(Link),
-    Refused(u8),
+pub enum Mode {
+    Zero,
+    One,
+}
+
+// The five numbers of a link as a caller gives them, of any size.
+#[derive(Clone, Copy)]
+pub struct Settings {
+    pub address: u32,
+    pub mode: u32,
+    pub subaddress: u32,
+    pub largest: u32,
+    pub window: u32,
+}
+
+impl From<Link> for Settings {
+    ghost from_gives = { λ link settings. settings ≡ settings_of link };
+
+    fn from(link: Link) -> Settings {
+        Settings {
+            address: u32::from(link.address),
+            mode: u32::from(link.mode),
+            subaddress: u32::from(link.subaddress),
+            largest: u32::from(link.largest),
+            window: u32::from(link.window),
+        }
+    }
 }
 
 // Whether a mode has this subaddress and this largest block.
@@ -23,61 +49,44 @@ pub enum Configuring {
 fn mode_allows(mode: u32, subaddress: u32, largest: u32) -> bool
     ensures { result ≡ mode_allows mode subaddress largest }
 {
-    if mode == 0 {
-        if subaddress != 11 {
-            return false;
-        }
-        return largest == 1024;
+    match mode {
+        0 => subaddress == 11 && largest == 1024,
+        1 => 11 <= subaddress && subaddress <= 26 && (largest == 1024 || largest == 4096),
+        _ => false,
     }
-    if mode != 1 {
-        return false;
-    }
-    if subaddress < 11 {
-        return false;
-    }
-    if 26 < subaddress {
-        return false;
-    }
-    if largest == 1024 {
-        return true;
-    }
-    if largest == 4096 {
-        return true;
-    }
-    false
 }
 
 // Whether five numbers are a configuration.
 #[tactic(auto, unfolding(crate::specs::Link::in_ranges))]
-fn in_ranges(address: u32, mode: u32, subaddress: u32, largest: u32, window: u32) -> bool
-    ensures { result ≡ in_ranges address mode subaddress largest window }
+fn in_ranges(settings: Settings) -> bool
+    ensures { result ≡ in_ranges settings }
 {
-    if 30 < address {
+    if 30 < settings.address {
         return false;
     }
-    if window < 2 {
+    if settings.window < 2 {
         return false;
     }
-    if 16 < window {
+    if 16 < settings.window {
         return false;
     }
-    mode_allows(mode, subaddress, largest)
+    mode_allows(settings.mode, settings.subaddress, settings.largest)
 }
 
-// The link of five numbers of any size.
+// A link within the ranges.
 #[tactic(auto, unfolding(crate::specs::Link::configure_of))]
-pub fn configure(address: u32, mode: u32, subaddress: u32, largest: u32, window: u32) -> Configuring
-    ensures { result ≡ configure_of address mode subaddress largest window }
+pub fn configure(settings: Settings) -> Result<Link, Refusal>
+    ensures { result ≡ configure_of settings }
 {
-    if !in_ranges(address, mode, subaddress, largest, window) {
-        return Configuring::Refused(20);
+    if !in_ranges(settings) {
+        return Err(Refusal::BadConfiguration);
     }
-    Configuring::Configured(Link {
-        address: (address % 256) as u8,
-        mode: (mode % 256) as u8,
-        subaddress: (subaddress % 256) as u8,
-        largest: (largest % 65536) as u16,
-        window: (window % 256) as u8,
+    Ok(Link {
+        address: settings.address as u8,
+        mode: settings.mode as u8,
+        subaddress: settings.subaddress as u8,
+        largest: settings.largest as u16,
+        window: settings.window as u8,
     })
 }
 
@@ -99,13 +108,26 @@ pub fn no_link() -> Link
 pub fn is_configured(link: Link) -> bool
     ensures { result ≡ configured_of link }
 {
-    in_ranges(
-        link.address as u32,
-        link.mode as u32,
-        link.subaddress as u32,
-        link.largest as u32,
-        link.window as u32,
-    )
+    in_ranges(Settings::from(link))
+}
+
+// A link's mode. Its number is 0 or 1 where it is configured; any other is taken as 1.
+pub fn mode_of(link: Link) -> Mode
+    ensures { result ≡ mode_of link }
+{
+    if link.mode == 0 {
+        Mode::Zero
+    } else {
+        Mode::One
+    }
+}
+
+// Whether the link is not configured, or less is lent than it needs.
+#[tactic(auto, unfolding(crate::specs::Link::short_of))]
+pub fn is_short(link: Link, needed: usize, lent: usize) -> bool
+    ensures { result ≡ short_of link needed lent }
+{
+    !is_configured(link) || lent < needed
 }
 
 // The bytes of a receiver's message store.
@@ -113,7 +135,10 @@ pub fn is_configured(link: Link) -> bool
 pub fn message_store(link: Link) -> usize
     ensures { result ≡ message_store_of link }
 {
-    if link.mode == 0 { 1024 } else { 4096 }
+    match mode_of(link) {
+        Mode::Zero => 1024,
+        Mode::One => 4096,
+    }
 }
 
 // The bytes of a sender's block store, and of a receiver's hand.
@@ -121,5 +146,5 @@ pub fn message_store(link: Link) -> usize
 pub fn block_store(link: Link) -> usize
     ensures { result ≡ block_store_of link }
 {
-    link.largest as usize
+    usize::from(link.largest)
 }

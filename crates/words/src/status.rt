@@ -9,21 +9,20 @@ pub enum Outcome {
     NoReply,
 }
 
-// Whether a status word came, the word, the terminal's address, the words asked of the terminal and those that came.
-#[tactic(auto, unfolding(crate::specs::Status::outcome_of))]
+// The status word, if one came, the terminal's address, the words asked of the terminal and those that came.
+#[tactic(auto, unfolding(crate::specs::Status::outcome_of, crate::specs::Status::status_outcome))]
 pub fn read_status(
-    came: bool,
-    status: u16,
+    status: Option<u16>,
     address: u8,
     words_asked: usize,
     words_came: usize,
 ) -> Outcome
-    ensures { result ≡ outcome_of came status address words_asked words_came }
+    ensures { result ≡ outcome_of status address words_asked words_came }
 {
-    if !came {
+    let Some(status) = status else {
         return Outcome::NoReply;
-    }
-    if status / 2048 != (address as u16) {
+    };
+    if status / 2048 != u16::from(address) {
         return Outcome::NoReply;
     }
     if status / 1024 % 2 == 1 {

@@ -6,7 +6,7 @@ ghost use Rattle.words.specs.Tick.{next_tick, age_of};
 pub fn next_tick(tick: u16) -> u16
     ensures { result ≡ next_tick tick }
 {
-    std::num::wrapping_add_u16(tick, 1)
+    tick.wrapping_add(1)
 }
 
 // How many frames ago, on the circle, the tick was `since`.
@@ -14,5 +14,5 @@ pub fn next_tick(tick: u16) -> u16
 pub fn age(tick: u16, since: u16) -> u16
     ensures { result ≡ age_of tick since }
 {
-    std::num::wrapping_sub_u16(tick, since)
+    tick.wrapping_sub(since)
 }

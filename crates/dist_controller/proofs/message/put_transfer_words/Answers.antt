@@ -1,3 +1,4 @@
+use native.Mathlib.Omega.{arith}
 use borrow.Author.Tests.{lt-ltb}
 use mathlib.Core.Path.{◌∙◌}
 use Rattle.stores.specs.Reading.{message_read_of, read_of}
@@ -9,9 +10,10 @@ pub returns-then-i-n : goal.returns-then-i-n
 unfolding transfer_words_at message_read_of read_of
 returns-then-i-n c =
     let a = c.args in
+    let r = rw (c.from.ensures, c.from-then-i-n.ensures) at c.read_message.ensures in
     simp (
       lt-ltb _ _ c.if-i-n.true,
       ← c.messages-n.ensures,
       ← c.last-i.ensures,
     )
-    (c.read_message.ensures.0 ∙ read_count _ a.store.now _ _ c.requires, c.read_message.ensures.1)
+    (r.0 ∙ read_count _ a.store.now _ _ (omega arith), r.1)

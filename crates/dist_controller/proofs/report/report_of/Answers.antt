@@ -6,7 +6,7 @@ pub returns : goal.returns
 unfolding report_of
 returns c = simp (
   length_list,
-  c.acceptance_of-acceptance.ensures,
+  c.acceptance_of.ensures,
   c.if-not-is_configured.false,
   ← c.is_configured.ensures,
 )

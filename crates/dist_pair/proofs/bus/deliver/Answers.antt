@@ -19,4 +19,4 @@ returns c =
     let words : take (c.words_asked-n.result - 0) c.words_asked-n.new.out ≡ ws =
     rw e.1 (take_sets _ ws (c.words_asked-n.result - 0) (omega (arith, e.0)) (omega (arith, e.0))) in
     let r = rw words at c.receive-s.ensures in
-    record { result = simp (c.answer_with.ensures, c.with_terminal.ensures, r.result); bytes = (r.bytes.0, r.bytes.1) }
+    record { result = simp (c.terminal_stepped.ensures, r.result); bytes = (r.bytes.0, r.bytes.1) }

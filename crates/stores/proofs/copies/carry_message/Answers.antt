@@ -7,7 +7,7 @@ use Rattle.stores.proofs.Runs.{take_sets}
 use Rattle.words.proofs.Bytes.{length_words_of}
 use native.Mathlib.Omega.{arith}
 use mathlib.Core.Path.{◌≡◌}
-use Prim.Native.Nat.{◌-◌, ◌*◌}
+use Prim.Native.Nat.{◌*◌}
 use lib.ListN.{take, drop}
 use Rattle.stores.proofs.copies.carry_message.Goals as goal
 
@@ -21,6 +21,6 @@ returns c =
     let l = length-take 64 (drop (64 * a.k) b) in
     let n = length_words_of part in
     let count = rw all at c.read_message-n.ensures.0 in
-    let words : take (c.read_message-n.result - 0) c.read_message-n.new.out ≡ words_of part =
-    rw (rw all at c.read_message-n.ensures.1) (take_sets _ (words_of part) (c.read_message-n.result - 0) (omega (arith, count)) (omega (arith, count))) in
+    let words : take c.read_message-n.result c.read_message-n.new.out ≡ words_of part =
+    rw (rw all at c.read_message-n.ensures.1) (take_sets _ (words_of part) c.read_message-n.result (omega (arith, count)) (omega (arith, count))) in
     rw words at c.write_message.ensures.1

@@ -22,12 +22,11 @@ loop-k-preserved c =
     let s = c.loop-k.store in
     let k = c.loop-k.k in
     let us = bytes_of (take (length a.store.now / 2) (words_of a.block.now)) in
-    let e = call.ensures ∙ rw c.loop-k.invariant.2 at (carried s a.block.now k) in (
-      search rules,
-      search rules,
-      search rules,
-      ap (λ (l : List ℕ). sets l (64 * (k + 1)) (drop (64 * (k + 1)) us)) e ∙ carry_turn s us k ∙ c.loop-k.invariant.3,
-    )
+    let e = call.ensures ∙ rw c.loop-k.invariant.long at (carried s a.block.now k) in
+    record {
+      long = search rules;
+      left = ap (λ (l : List ℕ). sets l (64 * (k + 1)) (drop (64 * (k + 1)) us)) e ∙ carry_turn s us k ∙ c.loop-k.invariant.left;
+    }
 
 pub returns : goal.returns
 unfolding stored_of written_of
@@ -37,4 +36,4 @@ returns c =
     let l = length-take (length a.store.now / 2) (words_of a.block.now) in
     let m = length_words_of a.block.now in
     let n = length_bytes_of ws in
-    sym (done c.loop-k.store (bytes_of ws) (64 * c.loop-k.k) (omega arith)) ∙ c.loop-k.invariant.3
+    sym (done c.loop-k.store (bytes_of ws) (64 * c.loop-k.k) (omega arith)) ∙ c.loop-k.invariant.left

@@ -17,11 +17,11 @@ returns c =
     let w = c.write_words in
     let a = c.args in
     let s = a.store.now in
-    let k = a.at + c.least.result - a.at in
-    let n : length (take k (drop a.at s)) ≡ min 64 (length s - a.at) = simp (length-take, length-drop) (omega (arith, c.least.ensures)) in
+    let k = a.at + c.min.result - a.at in
+    let n : length (take k (drop a.at s)) ≡ min 64 (length s - a.at) = simp (length-take, length-drop) (omega (arith, c.min.ensures)) in
     let vs = bytes_of (take (length (take k (drop a.at s)) / 2) a.words.now) in
     let m = length_bytes_of (take (length (take k (drop a.at s)) / 2) a.words.now) in
     let t = length-take (length (take k (drop a.at s)) / 2) a.words.now in (
       rw n at w.ensures.0,
-      part_back s _ vs a.at k w.ensures.1 (omega (arith, c.least.ensures)) (omega (arith, c.least.ensures)) ∙ ap (λ (x : ℕ). sets s a.at (bytes_of (take (x / 2) a.words.now))) n,
+      part_back s _ vs a.at k w.ensures.1 (omega (arith, c.min.ensures)) (omega (arith, c.min.ensures)) ∙ ap (λ (x : ℕ). sets s a.at (bytes_of (take (x / 2) a.words.now))) n,
     )

@@ -1,19 +1,22 @@
-use Prim.Native.Nat.{min, ◌/◌}
+use Rattle.std.proofs.Common.{arith, sym, ap, ◌∙◌, ◌≡◌, ◌/◌, length, take, min}
 use Rattle.words.specs.Bytes.{bytes_of}
+use Rattle.words.proofs.Bytes.{length_bytes_of}
+use lib.ListN.{length-take}
+use lib.Seq.{take_all}
 use Rattle.stores.specs.Writing.{written_of, words_written_of}
-use Rattle.stores.proofs.Runs.{take_least}
-use native.Mathlib.Omega.{arith}
-use mathlib.Core.Path.{◌≡◌, ap, ◌∙◌}
-use mathlib.Core.List.{List}
-use Prim.Native.Nat.{ℕ}
-use lib.ListN.{length}
-use lib.Seq.{sets}
+use Rattle.stores.proofs.Runs.{placed}
 use Rattle.stores.proofs.writer.write_words.Goals as goal
 
-pub returns-then-n-eq32 : goal.returns-then-n-eq32
+pub returns : goal.returns
 unfolding written_of words_written_of
-returns-then-n-eq32 c =
+returns c =
     let a = c.args in
-    let n : 32 ≡ min (length a.part.now / 2) (length a.words.now) = omega (arith, c.if-n-eq32, c.least-n) in
-    let taken = c.load_words.ensures ∙ take_least 32 (length a.part.now / 2) a.words.now n in
-    (n, c.put_bytes.ensures ∙ ap (λ (l : List ℕ). sets a.part.now 0 l) (c.bytes_of.ensures ∙ ap bytes_of taken))
+    let room = length a.part.now / 2 in
+    let whole = c.in-Some.ensures.cases in
+    let place = c.in-Some-first_chunk_mut.ensures.cases in
+    let n : 32 ≡ min room (length a.words.now) = omega (arith, whole.long, place.enough) in
+    let message = whole.same ∙ sym (take_all room a.words.now (omega (arith, n))) in
+    let bytes = c.bytes_of.ensures ∙ ap bytes_of message in
+    let l = length_bytes_of (take room a.words.now) in
+    let t = length-take room a.words.now in
+    (n, rw bytes (placed a.part.now (bytes_of (take room a.words.now)) 64 (omega arith) place.enough))

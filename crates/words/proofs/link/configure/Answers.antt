@@ -1,17 +1,23 @@
-use Rattle.std.proofs.Common.{◌≡◌, ◌%◌, sym, ◌∙◌, arith}
-use Rattle.words.specs.Link.{configure_of}
-use Rattle.words.proofs.Ranges.{ranges}
+use Rattle.std.proofs.Common.{◌≡◌, Bool, true, sym, ◌∙◌, arith}
+use Rattle.words.specs.Link.{in_ranges}
+use Rattle.words.specs.declared.link.Settings.{Settings}
+use Rattle.words.proofs.Ranges.{Ranges, ranges}
 use Rattle.words.proofs.link.configure.Goals as goal
 
-pub returns : goal.returns
-unfolding configure_of
-returns c =
-    let a = c.args in
-    let e = c.in_ranges.ensures in
-    let r = ranges a.address a.mode a.subaddress a.largest a.window (sym e ∙ c.if-not-in_ranges.false) in
-    let h₁ : a.address % 256 ≡ a.address = omega arith in
-    let h₂ : a.mode % 256 ≡ a.mode = omega arith in
-    let h₃ : a.subaddress % 256 ≡ a.subaddress = omega arith in
-    let h₄ : a.largest % 65536 ≡ a.largest = omega arith in
-    let h₅ : a.window % 256 ≡ a.window = omega arith in
-    simp (c.if-not-in_ranges.false, ← e, h₁, h₂, h₃, h₄, h₅)
+inside : (s : Settings) (answer : Bool) → answer ≡ in_ranges s → answer ≡ true → Ranges s.address s.mode s.subaddress s.largest s.window
+inside s answer e t = ranges s (sym e ∙ t)
+
+pub overflow_cast-result : goal.overflow_cast-result
+overflow_cast-result c = let r = inside c.args.settings _ c.in_ranges.ensures c.if-not-in_ranges.false in omega arith
+
+pub overflow_cast-result-2 : goal.overflow_cast-result-2
+overflow_cast-result-2 c = let r = inside c.args.settings _ c.in_ranges.ensures c.if-not-in_ranges.false in omega arith
+
+pub overflow_cast-result-3 : goal.overflow_cast-result-3
+overflow_cast-result-3 c = let r = inside c.args.settings _ c.in_ranges.ensures c.if-not-in_ranges.false in omega arith
+
+pub overflow_cast-result-4 : goal.overflow_cast-result-4
+overflow_cast-result-4 c = let r = inside c.args.settings _ c.in_ranges.ensures c.if-not-in_ranges.false in omega arith
+
+pub overflow_cast-result-5 : goal.overflow_cast-result-5
+overflow_cast-result-5 c = let r = inside c.args.settings _ c.in_ranges.ensures c.if-not-in_ranges.false in omega arith

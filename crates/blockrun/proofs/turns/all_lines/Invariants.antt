@@ -1,8 +1,0 @@
-use Rattle.std.proofs.Common.{◌-◌, ◌≤◌, length}
-use Rattle.blockrun.proofs.turns.all_lines.Given as goal
-
-abbrev pub invariant-loop-from : goal.invariant-loop-from
-invariant-loop-from g l = (l.from ≤ length l.lines) × (l.run.at ≤ length l.out)
-
-abbrev pub decreases-loop-from : goal.decreases-loop-from
-decreases-loop-from g l = length l.lines - l.from
