@@ -13,8 +13,8 @@ use Rattle.dist_controller.specs.Report.{report_of}
 use Rattle.dist_controller.specs.Message as Asked
 use Rattle.dist_controller.specs.declared.state.Finding.{Finding}
 use Rattle.dist_controller.specs.declared.report.Report.{Report}
-use Rattle.dist_controller.specs.declared.asked.Message.{Message}
-use Rattle.dist_controller.specs.declared.asked.Message.TheVariants.{Receive, Transmit}
+use Rattle.words.specs.declared.message.Message.{Message}
+use Rattle.words.specs.declared.message.Message.TheVariants.{Receive, Transmit}
 use Rattle.dist_pair.specs.Events as Events
 use Rattle.dist_pair.specs.Bus as Bus
 use Rattle.dist_pair.specs.declared.state.Pair.{Pair}

@@ -11,10 +11,10 @@ ghost use Rattle.dist_pair.specs.Events as Events;
 use crate::print::{put_answer, put_found, put_no, put_sent, put_taken};
 use blockrun_text::parse::Way;
 use blockrun_text::print::Page;
-use dist_controller::asked::Message;
 use dist_controller::state::Finding;
 use dist_pair::state::Pair;
 use words::control::Quality;
+use words::message::Message;
 use words::refusal::{Refusal, Stepped};
 
 // An event with nothing more to say than its number.

@@ -16,17 +16,13 @@ use Rattle.words.specs.declared.control.Quality.TheVariants.{BestEffort, Verifie
 use Rattle.words.specs.declared.control.Control.{Control}
 use Rattle.words.specs.declared.control.Control.TheVariants.{Reset, Block}
 use Rattle.words.specs.declared.status.Outcome.{Outcome}
-use Rattle.words.specs.declared.status.Outcome.TheVariants.{Done, NoReply}
+use Rattle.words.specs.Status.{is_done}
 use Rattle.dist_controller.specs.State.{in_phase, with_clock, with_standing, with_finding, one_more, ended_of}
 use Rattle.dist_controller.specs.declared.state.Phase.{Phase}
 use Rattle.dist_controller.specs.declared.state.Phase.TheVariants.{Idle, Sending, Waiting, Reading, Resetting, ResetWaiting, ResetReading, CutSending, CutReading, CutResetting}
 use Rattle.dist_controller.specs.declared.state.Fate.TheVariants as Fate
 use Rattle.dist_controller.specs.declared.state.Finding.{Finding}
 use Rattle.dist_controller.specs.declared.state.Controller.{Controller}
-
-abbrev pub is_done : Outcome → Bool
-is_done Done = true
-is_done NoReply = false
 
 -- ---- a data message or the descriptor
 

@@ -4,13 +4,7 @@ ghost use Rattle.dist_controller.specs.Asked.{transfer_message, last_of, asked_o
 
 use crate::state::{Controller, Phase};
 use words::link::Link;
-
-// R: the terminal receives; T: it transmits. With the subaddress and the number of words.
-#[derive(Clone, Copy)]
-pub enum Message {
-    Receive { subaddress: u8, words: u16 },
-    Transmit { subaddress: u8, words: u16 },
-}
+use words::message::Message;
 
 // The two words of a descriptor, and a read of those of a confirmation.
 const TO_DESCRIPTOR: Message = Message::Receive {

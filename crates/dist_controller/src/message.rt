@@ -4,10 +4,11 @@ ghost use Rattle.std.proofs.lemmas.List.Edits.{sets};
 ghost use Rattle.words.specs.Control.{list_of};
 ghost use Rattle.dist_controller.specs.Message.{transfer_words, words_asked, words_count, words_after, message_of, buffer_after};
 
-use crate::asked::{Message, asked_for, last};
+use crate::asked::{asked_for, last};
 use crate::state::{Controller, Phase};
 use words::control::Words;
 use words::link::{block_store, is_short};
+use words::message::Message;
 use words::refusal::Refusal;
 
 fn put_two(out: &mut [u16; 32], words: Words) -> usize

@@ -1,6 +1,6 @@
 // The controller is told the outcome of the message that it asked for (document 01, "Distribution").
 ghost use Rattle.std.specs.Prelude.{◌≡◌};
-ghost use Rattle.dist_controller.specs.Told.{is_done, stops_of, age_now, overdue_of, told_now, sent_of, lost_of, confirmation_found, finding_of};
+ghost use Rattle.dist_controller.specs.Told.{stops_of, age_now, overdue_of, told_now, sent_of, lost_of, confirmation_found, finding_of};
 ghost use Rattle.dist_controller.specs.Told.{confirmed_of, unanswered_of, read_of, accepted_of, not_shown, reset_read_of, reset_sent_of, told_reading, told_reset_reading, told_cut_reading, told_of};
 
 use crate::state::{
@@ -11,15 +11,6 @@ use words::count::DistributionCount;
 use words::refusal::{Refusal, Stepped, accept, refuse};
 use words::status::Outcome;
 
-fn is_done(outcome: Outcome) -> bool
-    ensures { result ≡ is_done outcome }
-{
-    match outcome {
-        Outcome::Done => true,
-        Outcome::NoReply => false,
-    }
-}
-
 // A data message with no reply ends a Verified Length transfer.
 #[tactic(auto, unfolding(crate::specs::Told::stops_of))]
 fn stops(quality: Quality, outcome: Outcome) -> bool
@@ -27,7 +18,7 @@ fn stops(quality: Quality, outcome: Outcome) -> bool
 {
     match quality {
         Quality::BestEffort => false,
-        Quality::Verified => !is_done(outcome),
+        Quality::Verified => !outcome.is_done(),
     }
 }
 
@@ -76,7 +67,7 @@ fn sent(c: Controller, outcome: Outcome) -> Controller
 fn lost(outcome: Outcome, words: &[u16]) -> bool
     ensures { result ≡ lost_of outcome words.now }
 {
-    !is_done(outcome) || words.len() != 2
+    !outcome.is_done() || words.len() != 2
 }
 
 // What the words of 27T mean to the transfer that waits for a count, if one does.
@@ -209,7 +200,7 @@ fn reset_read(c: Controller, found: Finding) -> Controller
 fn reset_sent(c: Controller, outcome: Outcome) -> Controller
     ensures { result ≡ reset_sent_of c outcome }
 {
-    if !is_done(outcome) {
+    if !outcome.is_done() {
         return Controller {
             phase: Phase::Idle,
             ..c

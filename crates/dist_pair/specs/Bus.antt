@@ -12,8 +12,8 @@ use Rattle.dist_controller.specs.Submit.{short_of}
 use Rattle.dist_controller.specs.Asked.{asked_of}
 use Rattle.dist_controller.specs.Message.{words_asked}
 use Rattle.dist_controller.specs.Told.{told_of}
-use Rattle.dist_controller.specs.declared.asked.Message.{Message}
-use Rattle.dist_controller.specs.declared.asked.Message.TheVariants.{Receive, Transmit}
+use Rattle.words.specs.declared.message.Message.{Message}
+use Rattle.words.specs.declared.message.Message.TheVariants.{Receive, Transmit}
 use Rattle.dist_terminal.specs.Descriptor.{short}
 use Rattle.dist_terminal.specs.Calls as Terminal
 use Rattle.dist_pair.specs.State.{with_terminal}

@@ -6,8 +6,8 @@ ghost use Rattle.dist_pair.specs.Bus.{arrive_of, places_after, hand_after, tell_
 
 use crate::events::{moved, terminal_stepped};
 use crate::state::{Flight, Pair};
-use dist_controller::asked::Message;
 use words::link::{block_store, is_short};
+use words::message::Message;
 use words::refusal::{Refusal, Stepped, accept, refuse};
 use words::status::Outcome;
 

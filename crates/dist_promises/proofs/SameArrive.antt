@@ -16,7 +16,7 @@ use Rattle.words.specs.Cutting.{message_subaddress_of}
 use Rattle.dist_controller.specs.Asked.{asked_of}
 use Rattle.dist_controller.specs.Message.{words_asked}
 use Rattle.dist_controller.specs.Submit.{short_of}
-use Rattle.dist_controller.specs.declared.asked.Message.TheVariants.{Receive, Transmit}
+use Rattle.words.specs.declared.message.Message.TheVariants.{Receive, Transmit}
 use Rattle.dist_pair.specs.Bus as Bus
 use Rattle.dist_pair.specs.Bus.{lent_short}
 use Rattle.promises.specs.Run.{Block, arrive}

@@ -15,7 +15,7 @@ use Rattle.words.specs.Cutting.{messages_of, message_words_of, message_subaddres
 use Rattle.words.specs.declared.link.Link.{Link}
 use Rattle.dist_controller.specs.Asked.{transfer_message, last_of, asked_of}
 use Rattle.dist_controller.specs.Message.{transfer_words_at, words_asked}
-use Rattle.dist_controller.specs.declared.asked.Message.TheVariants.{Receive, Transmit}
+use Rattle.words.specs.declared.message.Message.TheVariants.{Receive, Transmit}
 use Rattle.dist_controller.specs.declared.state.Controller.{Controller}
 use Rattle.promises.specs.Run.{Block}
 use Rattle.promises.specs.Promise.{messages}

@@ -9,8 +9,8 @@ use Rattle.words.specs.declared.link.Settings.{Settings}
 use Rattle.stores.specs.Marks.{marked_of}
 use Rattle.dist_controller.specs.Asked.{asked_of}
 use Rattle.dist_controller.specs.Report.{report_of}
-use Rattle.dist_controller.specs.declared.asked.Message.{Message}
-use Rattle.dist_controller.specs.declared.asked.Message.TheVariants.{Receive, Transmit}
+use Rattle.words.specs.declared.message.Message.{Message}
+use Rattle.words.specs.declared.message.Message.TheVariants.{Receive, Transmit}
 use Rattle.dist_controller.specs.declared.state.Fate.{Fate}
 use Rattle.dist_controller.specs.declared.report.Acceptance.{Acceptance}
 use Rattle.dist_controller.specs.declared.report.Report.{Report}

@@ -15,8 +15,8 @@ use Rattle.dist_controller.specs.Submit as Submit
 use Rattle.dist_controller.specs.Asked.{asked_of}
 use Rattle.dist_controller.specs.Report.{report_of}
 use Rattle.dist_controller.specs.declared.state.Controller.{Controller}
-use Rattle.dist_controller.specs.declared.asked.Message.{Message}
-use Rattle.dist_controller.specs.declared.asked.Message.TheVariants.{Receive, Transmit}
+use Rattle.words.specs.declared.message.Message.{Message}
+use Rattle.words.specs.declared.message.Message.TheVariants.{Receive, Transmit}
 use Rattle.dist_pair.specs.Events.{controller_stepped}
 use Rattle.dist_pair.specs.Bus as Bus
 use Rattle.dist_pair.specs.Bus.{lent_short, has_arrived}

@@ -24,7 +24,7 @@ use Rattle.dist_controller.specs.declared.state.Controller.{Controller}
 use Rattle.dist_controller.specs.declared.state.Fate.TheVariants as Fate
 use Rattle.dist_controller.specs.declared.state.Phase.{Phase}
 use Rattle.dist_controller.specs.declared.state.Phase.TheVariants.{Idle, Sending, Waiting, Reading, Resetting, ResetWaiting, ResetReading, CutSending, CutReading, CutResetting}
-use Rattle.dist_controller.specs.declared.asked.Message.{Message}
+use Rattle.words.specs.declared.message.Message.{Message}
 use Rattle.dist_controller.specs.declared.report.Report.{Report}
 use Rattle.dist_terminal.specs.State.{cleared_of, with_hand}
 use Rattle.dist_terminal.specs.Descriptor.{short, judged_of, block_step, block_hand, descriptor_in, hand_in}

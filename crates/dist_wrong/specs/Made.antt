@@ -16,8 +16,8 @@ use Rattle.dist_controller.specs.Message.{words_asked}
 use Rattle.dist_controller.specs.Told as Told
 use Rattle.dist_controller.specs.Report.{report_of}
 use Rattle.dist_controller.specs.declared.state.Controller.{Controller}
-use Rattle.dist_controller.specs.declared.asked.Message.{Message}
-use Rattle.dist_controller.specs.declared.asked.Message.TheVariants.{Receive, Transmit}
+use Rattle.words.specs.declared.message.Message.{Message}
+use Rattle.words.specs.declared.message.Message.TheVariants.{Receive, Transmit}
 use Rattle.dist_controller.specs.declared.report.Report.{Report}
 use Rattle.dist_terminal.specs.Calls as Calls
 use Rattle.dist_terminal.specs.declared.state.Terminal.{Terminal}

@@ -1,8 +1,12 @@
 -- The reading of a status word (document 01, "Words on the bus"; 001 clause 6.2.1.2.5). Bit 0 is the most significant.
 -- Assumes nothing.
-use Rattle.std.specs.Prelude.{ℕ, ◌/◌, ◌%◌, Bool, cond, not, Option, Some, None, ◌==◌}
+use Rattle.std.specs.Prelude.{ℕ, ◌/◌, ◌%◌, Bool, true, false, cond, not, Option, Some, None, ◌==◌}
 use Rattle.words.specs.declared.status.Outcome.{Outcome}
 use Rattle.words.specs.declared.status.Outcome.TheVariants.{Done, NoReply}
+
+abbrev pub is_done : Outcome → Bool
+is_done Done = true
+is_done NoReply = false
 
 -- no reply where the test holds, else what follows
 abbrev pub lost : Bool → Outcome → Outcome

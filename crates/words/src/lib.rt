@@ -7,6 +7,7 @@ pub mod control;
 pub mod count;
 pub mod cutting;
 pub mod link;
+pub mod message;
 pub mod reading;
 pub mod refusal;
 pub mod status;

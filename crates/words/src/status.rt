@@ -1,12 +1,23 @@
 // The reading of a status word (document 01, "Words on the bus"; 001 clause 6.2.1.2.5).
 ghost use Rattle.std.specs.Prelude.{◌≡◌};
-ghost use Rattle.words.specs.Status.{outcome_of};
+ghost use Rattle.words.specs.Status.{is_done, outcome_of};
 
 // What became of a message, as far as the controller can tell.
 #[derive(Clone, Copy)]
 pub enum Outcome {
     Done,
     NoReply,
+}
+
+impl Outcome {
+    pub fn is_done(self) -> bool
+        ensures { result ≡ is_done self }
+    {
+        match self {
+            Outcome::Done => true,
+            Outcome::NoReply => false,
+        }
+    }
 }
 
 // The status word, if one came, the terminal's address, the words asked of the terminal and those that came.
