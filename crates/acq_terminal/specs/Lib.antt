@@ -1,0 +1,5 @@
+pub mod State
+pub mod Place
+pub mod Receive
+pub mod Transmit
+pub mod Calls
