@@ -3,9 +3,8 @@
 use Rattle.std.specs.Prelude.{ℕ, ◌+◌, false, cond, not, Some, Ok, List, length, nat_lt}
 use Rattle.words.specs.Link.{configured_of, short_of, block_store_of}
 use Rattle.words.specs.Tick.{next_tick}
-use Rattle.words.specs.Refusal.{accept, refuse}
+use Rattle.words.specs.Refusal.{Stepped, accept, refuse}
 use Rattle.words.specs.declared.refusal.Refusal.TheVariants.{NotReady, NothingToTake, ShortBuffer}
-use Rattle.words.specs.declared.refusal.Stepped.{Stepped}
 use Rattle.stores.specs.Copying.{copied_of}
 use Rattle.acq_controller.specs.State.{fresh_of, in_phase, with_transfer, confirming_of}
 use Rattle.acq_controller.specs.Request.{Step}

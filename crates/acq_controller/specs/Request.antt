@@ -4,11 +4,10 @@ use Rattle.std.specs.Prelude.{ℕ, Bool, true, false, cond, not, ◌||◌, Optio
 use Rattle.words.specs.Count.{acquisition_count, same_acquisition}
 use Rattle.words.specs.Control.{acquisition_confirmation_words}
 use Rattle.words.specs.Reading.{read_request_of}
-use Rattle.words.specs.Refusal.{accept, refuse}
+use Rattle.words.specs.Refusal.{Stepped, accept, refuse}
 use Rattle.words.specs.Status.{is_done}
 use Rattle.words.specs.declared.refusal.Refusal.{Refusal}
 use Rattle.words.specs.declared.refusal.Refusal.TheVariants.{NotTwoWords, NoReset, LastHandled, HandFull}
-use Rattle.words.specs.declared.refusal.Stepped.{Stepped}
 use Rattle.words.specs.declared.control.Control.{Control}
 use Rattle.words.specs.declared.control.Quality.{Quality}
 use Rattle.words.specs.declared.control.Words.{Words}

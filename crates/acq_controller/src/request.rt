@@ -3,7 +3,7 @@ ghost use Rattle.std.specs.Prelude.{◌≡◌, length};
 ghost use Rattle.acq_controller.specs.Request.{lost_of, passed_of, again_of, begun_of, requested_of, read_of, unread_of, polled_of, due_confirmed, due_of};
 
 use crate::state::{Attempt, Block, Controller, Handled, Phase, confirming, reset_seen};
-use words::control::{Control, Words};
+use words::control::{Control, Words, acquisition_confirmation_words};
 use words::refusal::{Refusal, Stepped, accept, refuse};
 use words::status::Outcome;
 
@@ -31,7 +31,7 @@ fn passed(c: Controller) -> Controller
 fn again(c: Controller, block: Block, error: bool) -> Controller
     ensures { result ≡ again_of block error c }
 {
-    let words = words::control::confirmation_words(c.link, block.size, error, block.count);
+    let words = acquisition_confirmation_words(c.link, block.size, error, block.count);
     Controller {
         phase: Phase::Confirming(words),
         ..c

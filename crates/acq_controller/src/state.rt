@@ -2,7 +2,7 @@
 ghost use Rattle.std.specs.Prelude.{◌≡◌};
 ghost use Rattle.acq_controller.specs.State.{fresh_of, with_transfer, confirming_of, reset_seen, held_of, failed_of};
 
-use words::control::{Quality, Words};
+use words::control::{Quality, Words, acquisition_confirmation_words};
 use words::count::AcquisitionCount;
 use words::link::{Link, Mode, mode_of};
 
@@ -97,7 +97,7 @@ pub fn fresh(link: Link, tick: u16) -> Controller
 pub fn confirming(c: Controller, block: Block, error: bool) -> Controller
     ensures { result ≡ confirming_of block error c }
 {
-    let words = words::control::confirmation_words(c.link, block.size, error, block.count);
+    let words = acquisition_confirmation_words(c.link, block.size, error, block.count);
     Controller {
         phase: Phase::Confirming(words),
         transfer: Transfer {

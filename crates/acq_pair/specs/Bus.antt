@@ -3,9 +3,8 @@
 use Rattle.std.specs.Prelude.{ℕ, Bool, true, false, cond, not, ◌||◌, Option, Some, None, Ok, Err, List, [], length, take, replicate, min}
 use Rattle.words.specs.Link.{configured_of, short_of, block_store_of}
 use Rattle.words.specs.Control.{list_of}
-use Rattle.words.specs.Refusal.{Answer, refuse}
+use Rattle.words.specs.Refusal.{Stepped, Answer, refuse}
 use Rattle.words.specs.declared.refusal.Refusal.TheVariants.{NotReady, NothingAsked}
-use Rattle.words.specs.declared.refusal.Stepped.{Stepped}
 use Rattle.words.specs.declared.control.Words.{Words}
 use Rattle.words.specs.declared.message.Message.{Message}
 use Rattle.words.specs.declared.message.Message.TheVariants.{Receive, Transmit}

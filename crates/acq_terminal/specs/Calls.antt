@@ -2,10 +2,9 @@
 -- (document 01, "The two machines", "Acquisition"). Assumes nothing.
 use Rattle.std.specs.Prelude.{ℕ, cond, not, Option, Some, None, Result, Ok, Err, List, [], ◌∷◌, nat_lt}
 use Rattle.words.specs.Link.{configure_of, configured_of, block_store_of}
-use Rattle.words.specs.Refusal.{accept, refuse, numbers_of}
+use Rattle.words.specs.Refusal.{Stepped, accept, refuse, numbers_of}
 use Rattle.words.specs.declared.refusal.Refusal.{Refusal}
 use Rattle.words.specs.declared.refusal.Refusal.TheVariants.{NotReady, BadConfiguration}
-use Rattle.words.specs.declared.refusal.Stepped.{Stepped}
 use Rattle.words.specs.declared.link.Link.{Link}
 use Rattle.words.specs.declared.link.Settings.{Settings}
 use Rattle.acq_terminal.specs.State.{fresh_of, asking_of}

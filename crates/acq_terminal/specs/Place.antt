@@ -5,9 +5,8 @@ use Rattle.std.specs.Result.{result_and}
 use Rattle.words.specs.Count.{next_acquisition}
 use Rattle.words.specs.Link.{short_of, block_store_of}
 use Rattle.words.specs.Cutting.{size_answer_of}
-use Rattle.words.specs.Refusal.{Answer, accept, refuse}
+use Rattle.words.specs.Refusal.{Stepped, Answer, accept, refuse}
 use Rattle.words.specs.declared.refusal.Refusal.TheVariants.{NotReady, NoAcceptedReset, TransferOpen}
-use Rattle.words.specs.declared.refusal.Stepped.{Stepped}
 use Rattle.words.specs.declared.control.Quality.{Quality}
 use Rattle.words.specs.declared.link.Link.{Link}
 use Rattle.stores.specs.Copying.{stored_of}

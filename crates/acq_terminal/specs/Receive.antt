@@ -5,10 +5,9 @@ use Rattle.words.specs.Count.{acquisition_count, same_acquisition}
 use Rattle.words.specs.Link.{configured_of}
 use Rattle.words.specs.Reading.{read_confirmation_of}
 use Rattle.words.specs.Command.{read_command_of}
-use Rattle.words.specs.Refusal.{accept, refuse}
+use Rattle.words.specs.Refusal.{Stepped, accept, refuse}
 use Rattle.words.specs.declared.refusal.Refusal.{Refusal}
 use Rattle.words.specs.declared.refusal.Refusal.TheVariants.{NotReady, BadMessage}
-use Rattle.words.specs.declared.refusal.Stepped.{Stepped}
 use Rattle.words.specs.declared.command.Command.{Command}
 use Rattle.words.specs.declared.control.Control.{Control}
 use Rattle.words.specs.declared.control.Control.TheVariants.{Reset, Block}

@@ -6,9 +6,8 @@ use Rattle.words.specs.Bytes.{words_of}
 use Rattle.words.specs.Link.{short_of, block_store_of}
 use Rattle.words.specs.Cutting.{messages_of, part_of, data_answer_of}
 use Rattle.words.specs.Control.{request_words, reset_words, list_of}
-use Rattle.words.specs.Refusal.{Answer, accept, refuse}
+use Rattle.words.specs.Refusal.{Stepped, Answer, accept, refuse}
 use Rattle.words.specs.declared.refusal.Refusal.TheVariants.{NotReady, NotTwoWords}
-use Rattle.words.specs.declared.refusal.Stepped.{Stepped}
 use Rattle.words.specs.declared.control.Words.{Words}
 use Rattle.words.specs.declared.link.Link.{Link}
 use Rattle.acq_terminal.specs.State.{in_stage}

@@ -15,7 +15,7 @@ fn shown(t: Terminal) -> Words
 {
     match t.stage {
         Stage::Open(placed) => {
-            words::control::block_words(t.link, placed.size, placed.quality, t.count)
+            words::control::request_words(t.link, placed.size, placed.quality, t.count)
         }
         Stage::Asking => words::control::reset_words(),
         Stage::Silent | Stage::Ready => Words {

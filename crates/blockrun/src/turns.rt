@@ -1,7 +1,13 @@
 // Input of any length through a buffer: what one read brought is answered by one write, so that a person sees each answer at once.
 // A line over 16384 bytes is of another form; it is passed over and loses nothing behind it.
 // A read or a write that fails ends the program with its error.
-ghost use Rattle.std.specs.Prelude.{◌≡◌, ◌+◌, ◌≤◌, length, IfOk};
+ghost use Rattle.std.specs.Prelude.{◌≡◌, ◌+◌, ◌-◌, ◌≤◌, cond, nat_lt, length, IfOk};
+ghost use Rattle.std.proofs.lemmas.List.Edits.{sets};
+ghost use Rattle.blockrun_text.specs.Printing.{behind};
+ghost use Rattle.blockrun_lines.specs.Lines.{answer_text};
+ghost use Rattle.blockrun_lines.specs.Answering.{lent};
+ghost use Rattle.blockrun.specs.Turns.{pair_after, answer_to};
+ghost use Rattle.dist_pair.specs.Events as Events;
 
 use blockrun_text::print::Page;
 use dist_pair::state::Pair;
@@ -17,7 +23,10 @@ struct Answers {
 }
 
 impl Answers {
-    fn write(&mut self, output: &mut impl Write) -> io::Result<()> {
+    // Afterwards none waits.
+    fn write(&mut self, output: &mut impl Write) -> io::Result<()>
+        ensures { IfOk result (λ _. self.new.at ≡ 0) }
+    {
         output.write_all(&self.bytes[..self.at])?;
         output.flush()?;
         self.at = 0;
@@ -54,21 +63,39 @@ impl Run {
 
     // A line that is a whole `frame`.
     #[tactic(auto, unfolding(blockrun_text::specs::Pages::put))]
-    fn answer_frame(&mut self, output: &mut impl Write) -> io::Result<()> {
-        self.next_line(output)?;
+    fn put_frame(&mut self)
+        ensures pair { self.new.pair ≡ (Events.frame_of self.old.pair).state }
+        ensures place { self.new.answers.at
+            ≡ behind 65536 self.old.answers.at (length (answer_text self.old.number (Events.frame_of self.old.pair).answer)) }
+        ensures bytes { self.new.answers.bytes
+            ≡ sets self.old.answers.bytes self.old.answers.at (answer_text self.old.number (Events.frame_of self.old.pair).answer) }
+    {
         let mut page = Page {
             bytes: &mut self.answers.bytes,
             at: self.answers.at,
         };
         blockrun_lines::line::frame_line(&mut self.pair, self.number, &mut page);
         self.answers.at = page.at;
+    }
+
+    fn answer_frame(&mut self, output: &mut impl Write) -> io::Result<()> {
+        self.next_line(output)?;
+        self.put_frame();
         Ok(())
     }
 
     // One line, whole or, where `long`, only its end.
     #[tactic(auto, unfolding(blockrun_text::specs::Pages::put))]
-    fn answer_line(&mut self, line: &[u8], long: bool, output: &mut impl Write) -> io::Result<()> {
-        self.next_line(output)?;
+    fn put_line(&mut self, line: &[u8], long: bool)
+        ensures pair { self.new.pair ≡ pair_after long self.old.pair line.now
+            (lent self.old.store self.old.places self.old.hand self.old.room) }
+        ensures place { self.new.answers.at ≡ behind 65536 self.old.answers.at (length
+            (answer_to long self.old.pair self.old.number line.now
+            (lent self.old.store self.old.places self.old.hand self.old.room))) }
+        ensures bytes { self.new.answers.bytes ≡ sets self.old.answers.bytes self.old.answers.at
+            (answer_to long self.old.pair self.old.number line.now
+            (lent self.old.store self.old.places self.old.hand self.old.room)) }
+    {
         let mut page = Page {
             bytes: &mut self.answers.bytes,
             at: self.answers.at,
@@ -88,6 +115,11 @@ impl Run {
             );
         }
         self.answers.at = page.at;
+    }
+
+    fn answer_line(&mut self, line: &[u8], long: bool, output: &mut impl Write) -> io::Result<()> {
+        self.next_line(output)?;
+        self.put_line(line, long);
         Ok(())
     }
 
@@ -158,6 +190,7 @@ impl Held {
     // An unfinished line goes to the front, or is passed over where it is too long.
     fn keep(&mut self, rest: Rest, to: usize)
         requires { (rest.from ≤ to) × (to ≤ 32768) }
+        ensures { self.new.have ≡ cond (nat_lt 16384 (to - rest.from)) 0 (to - rest.from) }
     {
         let size = to - rest.from;
         if 16384 < size {
@@ -177,7 +210,9 @@ fn turn(
     held: &mut Held,
     input: &mut impl Read,
     output: &mut impl Write,
-) -> io::Result<bool> {
+) -> io::Result<bool>
+    ensures { IfOk result (λ _. run.new.answers.at ≡ 0) }
+{
     let have = held.have;
     let got = input.read(&mut held.bytes[have..])?;
     let to = held.closed(got);

@@ -2,9 +2,8 @@
 -- Assumes nothing.
 use Rattle.std.specs.Prelude.{ℕ, min, Option, Some, None, Result, Ok, Err, List, length, take, replicate}
 use Rattle.std.proofs.lemmas.List.Edits.{sets}
-use Rattle.words.specs.Refusal.{refusal_number}
+use Rattle.words.specs.Refusal.{Stepped, refusal_number}
 use Rattle.words.specs.declared.refusal.Refusal.{Refusal}
-use Rattle.words.specs.declared.refusal.Stepped.{Stepped}
 use Rattle.words.specs.declared.control.Quality.{Quality}
 use Rattle.blockrun_text.specs.Hex.{block_of, block_size_of}
 use Rattle.blockrun_text.specs.declared.parse.Way.{Way}

@@ -1,6 +1,6 @@
 -- The lines that blockrun writes (document 01, "Pairs at the edges"): tab-parted, the line number, ok or no, and what follows.
 -- Assumes nothing.
-use Rattle.std.specs.Prelude.{ℕ, Option, Some, None, Ok, Err, List, [], ◌∷◌, ◌++◌}
+use Rattle.std.specs.Prelude.{ℕ, Option, Some, None, Result, Ok, Err, List, [], ◌∷◌, ◌++◌}
 use Rattle.blockrun_text.specs.Printing.{decimal_of, hex_of, words_of}
 use Rattle.words.specs.Refusal.{Answer, refusal_number}
 use Rattle.dist_controller.specs.declared.state.Finding.{Finding}
@@ -21,9 +21,14 @@ ok_text number = start_text number ++ (111 ∷ 107 ∷ 10 ∷ [])
 unfoldable pub no_text : ℕ → ℕ → List ℕ
 no_text number refusal = start_text number ++ ((110 ∷ 111 ∷ 9 ∷ []) ++ (decimal_of refusal ++ end))
 
+-- a refusal may be any number
+abbrev pub numbered_text : {E : Type 0} → (E → ℕ) → ℕ → Result (Unit {0}) E → List ℕ
+numbered_text refusal number (Ok u) = ok_text number
+numbered_text refusal number (Err e) = no_text number (refusal e)
+
+-- or one of the paper's
 abbrev pub answer_text : ℕ → Answer → List ℕ
-answer_text number (Ok u) = ok_text number
-answer_text number (Err r) = no_text number (refusal_number r)
+answer_text number answer = numbered_text refusal_number number answer
 
 -- ok, a tab, the bytes in hex
 unfoldable pub take_text : ℕ → List ℕ → List ℕ

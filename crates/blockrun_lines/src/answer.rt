@@ -1,6 +1,6 @@
 // A line is answered: the event that it names happens to the link, and its answer is put on the page.
 ghost use Rattle.std.specs.Prelude.{◌≡◌, length};
-ghost use Rattle.blockrun_lines.specs.Lines.{answer_text};
+ghost use Rattle.blockrun_lines.specs.Lines.{numbered_text};
 ghost use Rattle.blockrun_lines.specs.Answers.{take_line_text, found_of, send_line, send_block, carried_of, places_carried, hand_carried, message_text};
 ghost use Rattle.blockrun_lines.specs.Answers.{bus_pair, bus_text, bus_places, bus_hand};
 ghost use Rattle.std.proofs.lemmas.List.Edits.{sets};
@@ -15,12 +15,17 @@ use dist_controller::state::Finding;
 use dist_pair::state::Pair;
 use words::control::Quality;
 use words::message::Message;
-use words::refusal::{Refusal, Stepped};
+use words::refusal::{Numbered, Refusal, Stepped};
 
 // An event with nothing more to say than its number.
-pub fn stepped(s: Stepped<Pair, ()>, pair: &mut Pair, number: u64, page: &mut Page<'_>)
+pub fn stepped<E: Numbered>(
+    s: Stepped<Pair, (), E>,
+    pair: &mut Pair,
+    number: u64,
+    page: &mut Page<'_>,
+)
     ensures pair { pair.new ≡ s.state }
-    ensures page { page.new ≡ put page.old (answer_text number s.answer) }
+    ensures page { page.new ≡ put page.old (numbered_text E.number number s.answer) }
 {
     *pair = s.state;
     put_answer(page, number, s.answer);

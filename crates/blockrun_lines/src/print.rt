@@ -1,11 +1,11 @@
 // The lines that blockrun writes, each put on a page.
 ghost use Rattle.std.specs.Prelude.{◌≡◌};
 ghost use Rattle.blockrun_text.specs.Pages.{put};
-ghost use Rattle.blockrun_lines.specs.Lines.{start_text, ok_text, no_text, answer_text, take_text, sent_text, finding_text, found_text};
+ghost use Rattle.blockrun_lines.specs.Lines.{start_text, ok_text, no_text, numbered_text, take_text, sent_text, finding_text, found_text};
 
 use blockrun_text::print::Page;
 use dist_controller::state::Finding;
-use words::refusal::Refusal;
+use words::refusal::Numbered;
 
 // The line's number and a tab.
 #[tactic(auto, using(blockrun_text::proofs::Pages::puts_law), unfolding(crate::specs::Lines::start_text))]
@@ -35,12 +35,12 @@ pub fn put_no(page: &mut Page<'_>, number: u64, refusal: u8)
     page.put_text(b"\n");
 }
 
-pub fn put_answer(page: &mut Page<'_>, number: u64, answer: Result<(), Refusal>)
-    ensures { page.new ≡ put page.old (answer_text number answer) }
+pub fn put_answer<E: Numbered>(page: &mut Page<'_>, number: u64, answer: Result<(), E>)
+    ensures { page.new ≡ put page.old (numbered_text E.number number answer) }
 {
     match answer {
         Ok(()) => put_ok(page, number),
-        Err(refusal) => put_no(page, number, refusal as u8),
+        Err(refusal) => put_no(page, number, refusal.number()),
     }
 }
 

@@ -1,11 +1,10 @@
 -- A frame begins, a Reset is asked for, the controller restarts (document 01, "Distribution").
 -- Assumes nothing.
-use Rattle.std.specs.Prelude.{Bool, false, cond, not, leb}
+use Rattle.std.specs.Prelude.{Bool, false, cond, not, Some, leb}
 use Rattle.words.specs.Tick.{next_tick}
 use Rattle.words.specs.Link.{configured_of}
-use Rattle.words.specs.Refusal.{accept, refuse}
+use Rattle.words.specs.Refusal.{Stepped, accept, refuse}
 use Rattle.words.specs.declared.refusal.Refusal.TheVariants.{NotReady}
-use Rattle.words.specs.declared.refusal.Stepped.{Stepped}
 use Rattle.dist_controller.specs.State.{is_open, fresh_of, in_phase, with_clock, with_standing, one_more, ended_of}
 use Rattle.dist_controller.specs.Told.{age_now}
 use Rattle.dist_controller.specs.declared.state.Phase.{Phase}
@@ -62,7 +61,7 @@ voided_of phase c = with_standing (record { accepted = false; count = c.standing
 
 -- it cuts an open transfer, at once, as abandoned
 unfoldable pub cut_transfer : Phase → Controller → Controller
-cut_transfer phase c = cond (is_open c.phase) (ended_of Fate.Abandoned phase c) (in_phase phase c)
+cut_transfer phase c = cond (is_open c.phase) (ended_of (Some Fate.Abandoned) phase c) (in_phase phase c)
 
 unfoldable pub reset_of : Controller → Stepped Controller (Unit {0})
 reset_of c =

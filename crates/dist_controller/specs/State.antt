@@ -1,6 +1,6 @@
 -- What the controller keeps of one link (document 01, "Distribution"), and the changes that its events are made of.
 -- Assumes nothing.
-use Rattle.std.specs.Prelude.{ℕ, ◌+◌, Bool, true, false, cond, Some, None, eqb}
+use Rattle.std.specs.Prelude.{ℕ, ◌+◌, Bool, true, false, cond, Option, None, eqb}
 use Rattle.words.specs.Count.{distribution_count}
 use Rattle.words.specs.declared.link.Link.{Link}
 use Rattle.words.specs.declared.control.Quality.TheVariants.{BestEffort}
@@ -60,9 +60,9 @@ abbrev pub with_standing : Standing → Phase → Controller → Controller
 with_standing standing phase c =
     record { link = c.link; clock = c.clock; standing = standing; phase = phase; transfer = c.transfer; found = c.found }
 
-abbrev pub with_finding : Finding → Controller → Controller
+abbrev pub with_finding : Option Finding → Controller → Controller
 with_finding found c =
-    record { link = c.link; clock = c.clock; standing = c.standing; phase = c.phase; transfer = c.transfer; found = Some found }
+    record { link = c.link; clock = c.clock; standing = c.standing; phase = c.phase; transfer = c.transfer; found = found }
 
 -- a message count is a 16-bit number, and stops at its last
 unfoldable pub counted_of : ℕ → ℕ
@@ -76,9 +76,9 @@ one_more phase c =
     phase
     c
 
-abbrev pub ended_of : Fate → Phase → Controller → Controller
+abbrev pub ended_of : Option Fate → Phase → Controller → Controller
 ended_of fate phase c =
     with_transfer
-    (record { size = c.transfer.size; quality = c.transfer.quality; gone = c.transfer.gone; fate = Some fate })
+    (record { size = c.transfer.size; quality = c.transfer.quality; gone = c.transfer.gone; fate = fate })
     phase
     c

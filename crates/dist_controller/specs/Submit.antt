@@ -4,9 +4,8 @@ use Rattle.std.specs.Prelude.{ℕ, ◌+◌, Bool, cond, not, ◌||◌, Some, Ok,
 use Rattle.words.specs.Count.{next_distribution}
 use Rattle.words.specs.Link.{configured_of, block_store_of}
 use Rattle.words.specs.Cutting.{size_answer_of}
-use Rattle.words.specs.Refusal.{Answer, accept, refuse}
+use Rattle.words.specs.Refusal.{Stepped, Answer, accept, refuse}
 use Rattle.words.specs.declared.refusal.Refusal.TheVariants.{NotReady, NoAcceptedReset, TransferOpen, TransfersSpent}
-use Rattle.words.specs.declared.refusal.Stepped.{Stepped}
 use Rattle.words.specs.declared.control.Quality.{Quality}
 use Rattle.words.specs.declared.link.Link.{Link}
 use Rattle.stores.specs.Copying.{stored_of}

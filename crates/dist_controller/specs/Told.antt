@@ -6,10 +6,9 @@ use Rattle.words.specs.Tick.{age_of}
 use Rattle.words.specs.Link.{configured_of}
 use Rattle.words.specs.Cutting.{messages_of}
 use Rattle.words.specs.Reading.{read_confirmation_of}
-use Rattle.words.specs.Refusal.{accept, refuse}
+use Rattle.words.specs.Refusal.{Stepped, accept, refuse}
 use Rattle.words.specs.declared.refusal.Refusal.{Refusal}
 use Rattle.words.specs.declared.refusal.Refusal.TheVariants.{NotReady, NothingAsked}
-use Rattle.words.specs.declared.refusal.Stepped.{Stepped}
 use Rattle.words.specs.declared.count.DistributionCount.{DistributionCount}
 use Rattle.words.specs.declared.control.Quality.{Quality}
 use Rattle.words.specs.declared.control.Quality.TheVariants.{BestEffort, Verified}
@@ -39,7 +38,7 @@ told_now phase c = with_clock (record { tick = c.clock.tick; since = c.clock.tic
 unfoldable pub sent_of : Controller → Outcome → Controller
 sent_of c outcome =
     cond (ltb (messages_of c.transfer.size) c.transfer.gone) (told_now Waiting c)
-    (cond (stops_of c.transfer.quality outcome) (ended_of Fate.Abandoned Idle c)
+    (cond (stops_of c.transfer.quality outcome) (ended_of (Some Fate.Abandoned) Idle c)
     (one_more Sending c))
 
 -- ---- a read of 27T
@@ -74,21 +73,21 @@ finding_of c waited outcome words =
 
 abbrev pub confirmed_of : Controller → Controller
 confirmed_of c =
-    ended_of Fate.Confirmed Idle (with_standing (record { accepted = c.standing.accepted; count = c.standing.count; spent = 0 }) Idle c)
+    ended_of (Some Fate.Confirmed) Idle (with_standing (record { accepted = c.standing.accepted; count = c.standing.count; spent = 0 }) Idle c)
 
 -- otherwise, at age W or more: unconfirmed; below W, read again next frame
 unfoldable pub unanswered_of : Controller → Controller
-unanswered_of c = cond (overdue_of c) (ended_of Fate.Unconfirmed Idle c) (in_phase Waiting c)
+unanswered_of c = cond (overdue_of c) (ended_of (Some Fate.Unconfirmed) Idle c) (in_phase Waiting c)
 
 unfoldable pub read_of : Controller → Finding → Controller
 read_of c Finding.Reset = unanswered_of c
 read_of c Finding.Confirmed = confirmed_of c
-read_of c Finding.Refused = ended_of Fate.Refused Idle c
+read_of c Finding.Refused = ended_of (Some Fate.Refused) Idle c
 read_of c Finding.Other = unanswered_of c
 read_of c Finding.Lost = unanswered_of c
 
 unfoldable pub told_reading : Controller → Outcome → List ℕ → Controller
-told_reading c outcome words = read_of (with_finding (finding_of c (Some c.standing.count) outcome words) c) (finding_of c (Some c.standing.count) outcome words)
+told_reading c outcome words = read_of (with_finding (Some (finding_of c (Some c.standing.count) outcome words)) c) (finding_of c (Some c.standing.count) outcome words)
 
 -- ---- the Reset
 
@@ -112,11 +111,11 @@ reset_read_of c Finding.Other = not_shown c
 reset_read_of c Finding.Lost = not_shown c
 
 unfoldable pub told_reset_reading : Controller → Outcome → List ℕ → Controller
-told_reset_reading c outcome words = reset_read_of (with_finding (finding_of c None outcome words) c) (finding_of c None outcome words)
+told_reset_reading c outcome words = reset_read_of (with_finding (Some (finding_of c None outcome words)) c) (finding_of c None outcome words)
 
 -- a message that was out when a Reset was asked for is told first, without effect; then the Reset descriptor is asked for
 unfoldable pub told_cut_reading : Controller → Outcome → List ℕ → Controller
-told_cut_reading c outcome words = in_phase Resetting (with_finding (finding_of c None outcome words) c)
+told_cut_reading c outcome words = in_phase Resetting (with_finding (Some (finding_of c None outcome words)) c)
 
 -- ---- 18: an outcome told when no message is asked for
 

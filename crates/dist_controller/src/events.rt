@@ -94,7 +94,7 @@ fn cut_transfer(c: Controller, phase: Phase) -> Controller
     ensures { result ≡ cut_transfer phase c }
 {
     if is_open(c.phase) {
-        return ended(c, Fate::Abandoned, phase);
+        return ended(c, Some(Fate::Abandoned), phase);
     }
     Controller { phase, ..c }
 }

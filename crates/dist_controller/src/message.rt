@@ -36,7 +36,7 @@ fn put_transfer_words(c: Controller, store: &[u8], out: &mut [u16; 32]) -> usize
     }
     put_two(
         out,
-        words::control::block_words(c.link, size, c.transfer.quality, c.standing.count),
+        words::control::descriptor_words(c.link, size, c.transfer.quality, c.standing.count),
     )
 }
 

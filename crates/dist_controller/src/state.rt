@@ -115,23 +115,17 @@ pub fn one_more(c: Controller, phase: Phase) -> Controller
 }
 
 // What the last read of 27T found.
-pub fn with_finding(c: Controller, found: Finding) -> Controller
+pub fn with_finding(c: Controller, found: Option<Finding>) -> Controller
     ensures { result ≡ with_finding found c }
 {
-    Controller {
-        found: Some(found),
-        ..c
-    }
+    Controller { found, ..c }
 }
 
 // The transfer's fate is known.
-pub fn ended(c: Controller, fate: Fate, phase: Phase) -> Controller
+pub fn ended(c: Controller, fate: Option<Fate>, phase: Phase) -> Controller
     ensures { result ≡ ended_of fate phase c }
 {
-    let transfer = Transfer {
-        fate: Some(fate),
-        ..c.transfer
-    };
+    let transfer = Transfer { fate, ..c.transfer };
     Controller {
         transfer,
         phase,

@@ -57,7 +57,7 @@ fn sent(c: Controller, outcome: Outcome) -> Controller
         return told_now(c, Phase::Waiting);
     }
     if stops(c.transfer.quality, outcome) {
-        return ended(c, Fate::Abandoned, Phase::Idle);
+        return ended(c, Some(Fate::Abandoned), Phase::Idle);
     }
     one_more(c, Phase::Sending)
 }
@@ -126,7 +126,11 @@ fn confirmed(c: Controller) -> Controller
         spent: 0,
         ..c.standing
     };
-    ended(Controller { standing, ..c }, Fate::Confirmed, Phase::Idle)
+    ended(
+        Controller { standing, ..c },
+        Some(Fate::Confirmed),
+        Phase::Idle,
+    )
 }
 
 // No answer yet: 27T is read again next frame, until the window is over.
@@ -135,7 +139,7 @@ fn unanswered(c: Controller) -> Controller
     ensures { result ≡ unanswered_of c }
 {
     if overdue(c) {
-        return ended(c, Fate::Unconfirmed, Phase::Idle);
+        return ended(c, Some(Fate::Unconfirmed), Phase::Idle);
     }
     Controller {
         phase: Phase::Waiting,
@@ -150,7 +154,7 @@ fn read(c: Controller, found: Finding) -> Controller
 {
     match found {
         Finding::Confirmed => confirmed(c),
-        Finding::Refused => ended(c, Fate::Refused, Phase::Idle),
+        Finding::Refused => ended(c, Some(Fate::Refused), Phase::Idle),
         Finding::Reset | Finding::Other | Finding::Lost => unanswered(c),
     }
 }
@@ -215,7 +219,7 @@ fn told_reading(c: Controller, outcome: Outcome, words: &[u16]) -> Controller
     ensures { result ≡ told_reading c outcome words.now }
 {
     let found = finding(c, Some(c.standing.count), outcome, words);
-    read(with_finding(c, found), found)
+    read(with_finding(c, Some(found)), found)
 }
 
 // A read of 27T was told, for the Reset.
@@ -224,7 +228,7 @@ fn told_reset_reading(c: Controller, outcome: Outcome, words: &[u16]) -> Control
     ensures { result ≡ told_reset_reading c outcome words.now }
 {
     let found = finding(c, None, outcome, words);
-    reset_read(with_finding(c, found), found)
+    reset_read(with_finding(c, Some(found)), found)
 }
 
 // A read that a Reset cut was told: the Reset's turn.
@@ -235,7 +239,7 @@ fn told_cut_reading(c: Controller, outcome: Outcome, words: &[u16]) -> Controlle
     let found = finding(c, None, outcome, words);
     Controller {
         phase: Phase::Resetting,
-        ..with_finding(c, found)
+        ..with_finding(c, Some(found))
     }
 }
 

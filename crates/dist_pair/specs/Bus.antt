@@ -3,9 +3,8 @@
 use Rattle.std.specs.Prelude.{ℕ, Bool, true, false, cond, not, ◌||◌, Option, Some, None, List, [], length}
 use Rattle.words.specs.Link.{configured_of}
 use Rattle.words.specs.Control.{list_of}
-use Rattle.words.specs.Refusal.{accept, refuse}
+use Rattle.words.specs.Refusal.{Stepped, accept, refuse}
 use Rattle.words.specs.declared.refusal.Refusal.TheVariants.{NotReady, NothingAsked}
-use Rattle.words.specs.declared.refusal.Stepped.{Stepped}
 use Rattle.words.specs.declared.status.Outcome.{Outcome}
 use Rattle.words.specs.declared.status.Outcome.TheVariants.{Done, NoReply}
 use Rattle.dist_controller.specs.Submit.{short_of}

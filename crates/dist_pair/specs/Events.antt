@@ -1,8 +1,7 @@
 -- What either end's host does: configuring, submission, Reset, frame, take, restart of either end (document 01, "Distribution").
 -- Assumes nothing.
 use Rattle.std.specs.Prelude.{ℕ, Ok, Err, List}
-use Rattle.words.specs.Refusal.{Answer, accept, refuse}
-use Rattle.words.specs.declared.refusal.Stepped.{Stepped}
+use Rattle.words.specs.Refusal.{Stepped, Answer, accept, refuse}
 use Rattle.words.specs.declared.link.Settings.{Settings}
 use Rattle.words.specs.declared.control.Quality.{Quality}
 use Rattle.dist_controller.specs.Submit as Submit

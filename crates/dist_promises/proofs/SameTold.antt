@@ -10,9 +10,8 @@ use Rattle.dist_controller.specs.Report.{report_of}
 use Rattle.dist_controller.specs.Told.{told_of}
 use Rattle.dist_pair.specs.Bus as Bus
 use Rattle.dist_pair.specs.Bus.{tell_of}
-use Rattle.words.specs.Refusal.{refuse}
+use Rattle.words.specs.Refusal.{Stepped, refuse}
 use Rattle.words.specs.declared.refusal.Refusal.TheVariants.{NothingAsked}
-use Rattle.words.specs.declared.refusal.Stepped.{Stepped}
 use Rattle.dist_pair.specs.declared.state.Pair.{Pair}
 use Rattle.promises.specs.Run.{told_done, told_no_reply, Answer, denied}
 use Rattle.dist_promises.specs.Distribution.{Ends, step_of, says_of, answer_of}

@@ -173,7 +173,7 @@ module _ (link : Link) (h : Hidden) (wide : ℕ) (a : Bool) (n s now since cost 
           quality = h.quality;
           fate = (Some Fate.Unconfirmed);
           found = Some f;
-          is = rw (conf, found, again (with_finding f (c reading)), g, stays x (tx a n s reading), z);
+          is = rw (conf, found, again (with_finding (Some f) (c reading)), g, stays x (tx a n s reading), z);
           phase = rw (g, stays x (tx a n s reading), z) tt;
           says = rw (g, stays x (tx a n s reading), says x, z);
           count = rw (g, stays x (tx a n s reading)) low;
@@ -183,7 +183,7 @@ module _ (link : Link) (h : Hidden) (wide : ℕ) (a : Bool) (n s now since cost 
           quality = h.quality;
           fate = h.fate;
           found = Some f;
-          is = rw (conf, found, again (with_finding f (c reading)), g, stays x (tx a n s reading), z);
+          is = rw (conf, found, again (with_finding (Some f) (c reading)), g, stays x (tx a n s reading), z);
           phase = rw (g, stays x (tx a n s reading), z) tt;
           says = rw (g, stays x (tx a n s reading), says x, z) (quiet (Some Fate.Open) a);
           count = rw (g, stays x (tx a n s reading)) low;

@@ -73,7 +73,7 @@ module _ (link : Link) (h : Hidden) (wide : ℕ) (a : Bool) (n s now since cost 
         quality = h.quality;
         fate = h.fate;
         found = Some f;
-        is = rw (conf, found, again (with_finding f (ctl reading_reset)), g, stays y (tx a n s reading_reset), z);
+        is = rw (conf, found, again (with_finding (Some f) (ctl reading_reset)), g, stays y (tx a n s reading_reset), z);
         phase = rw (g, stays y (tx a n s reading_reset), z) o;
         says = rw (g, stays y (tx a n s reading_reset), says, z) (quiet h.fate a);
         count = rw (g, stays y (tx a n s reading_reset)) low;
@@ -83,7 +83,7 @@ module _ (link : Link) (h : Hidden) (wide : ℕ) (a : Bool) (n s now since cost 
         quality = h.quality;
         fate = h.fate;
         found = Some f;
-        is = rw (conf, found, again (with_finding f (ctl reading_reset)), g, stays y (tx a n s reading_reset), z);
+        is = rw (conf, found, again (with_finding (Some f) (ctl reading_reset)), g, stays y (tx a n s reading_reset), z);
         phase = rw (g, stays y (tx a n s reading_reset), z) (e, o);
         says = rw (g, stays y (tx a n s reading_reset), says, z) (quiet h.fate a);
         count = rw (g, stays y (tx a n s reading_reset)) low;

@@ -10,10 +10,9 @@ use lib.ListN.{length}
 use Rattle.std.proofs.Common.{Ok, Err, None}
 use borrow.Author.Tests.{ltb-false}
 use Rattle.words.specs.Link.{in_ranges, configure_of, configured_of, message_store_of, block_store_of}
-use Rattle.words.specs.Refusal.{Answer, accept, refuse}
+use Rattle.words.specs.Refusal.{Stepped, Answer, accept, refuse}
 use Rattle.words.specs.declared.refusal.Refusal.{Refusal}
 use Rattle.words.specs.declared.refusal.Refusal.TheVariants.{BadConfiguration}
-use Rattle.words.specs.declared.refusal.Stepped.{Stepped}
 use Rattle.words.specs.declared.link.Settings.{Settings}
 use Rattle.words.specs.declared.control.Quality.TheVariants.{BestEffort}
 use Rattle.words.specs.declared.link.Link.{Link}

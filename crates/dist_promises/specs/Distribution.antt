@@ -4,7 +4,7 @@ use Rattle.std.specs.Prelude.{ℕ, Bool, true, false, cond, not, ◌&&◌, Optio
 use Rattle.words.specs.Control.{quality_of}
 use Rattle.words.specs.Refusal as Words
 use Rattle.words.specs.declared.refusal.Refusal.{Refusal}
-use Rattle.words.specs.declared.refusal.Stepped.{Stepped}
+use Rattle.words.specs.Refusal.{Stepped}
 use Rattle.words.specs.declared.link.Settings.{Settings}
 use Rattle.stores.specs.Marks.{marked_of}
 use Rattle.dist_controller.specs.Asked.{asked_of}

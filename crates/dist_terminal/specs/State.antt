@@ -6,7 +6,7 @@ use Rattle.words.specs.Control.{reset_words}
 use Rattle.words.specs.declared.control.Words.{Words}
 use Rattle.words.specs.declared.count.DistributionCount.{DistributionCount}
 use Rattle.words.specs.declared.link.Link.{Link}
-use Rattle.words.specs.declared.refusal.Stepped.{Stepped}
+use Rattle.words.specs.Refusal.{Stepped}
 use Rattle.dist_terminal.specs.declared.state.Held.{Held}
 use Rattle.dist_terminal.specs.declared.state.Marks.{Marks}
 use Rattle.dist_terminal.specs.declared.state.Terminal.{Terminal}

@@ -4,10 +4,9 @@ use Rattle.std.specs.Prelude.{ℕ, Bool, false, cond, not, ◌||◌, List, [], �
 use Rattle.std.proofs.lemmas.List.Edits.{sets}
 use Rattle.words.specs.Link.{configured_of, block_store_of}
 use Rattle.words.specs.Control.{distribution_confirmation_words, list_of}
-use Rattle.words.specs.Refusal.{Answer, numbers_of, refuse}
+use Rattle.words.specs.Refusal.{Stepped, Answer, numbers_of, refuse}
 use Rattle.words.specs.declared.refusal.Refusal.{Refusal}
 use Rattle.words.specs.declared.refusal.Refusal.TheVariants.{NotReady, NotTwoWords, NothingToTake, ShortBuffer}
-use Rattle.words.specs.declared.refusal.Stepped.{Stepped}
 use Rattle.words.specs.declared.count.DistributionCount.{DistributionCount}
 use Rattle.words.specs.declared.link.Link.{Link}
 use Rattle.stores.specs.Copying.{copied_of}

@@ -7,7 +7,7 @@ ghost use Rattle.words.specs.Link.{message_store_of};
 
 use crate::length::length_met;
 use crate::state::{Held, Terminal, after_reset, cleared, handled};
-use words::control::{Control, Quality};
+use words::control::{Control, Quality, distribution_confirmation_words};
 use words::link::{Link, Mode, block_store, is_short, message_store, mode_of};
 use words::refusal::{Refusal, Stepped, accept, refuse};
 
@@ -77,7 +77,7 @@ fn failed(t: Terminal, block: Held) -> Terminal
     ensures { result ≡ failed_of block.size block.count t }
 {
     Terminal {
-        shown: words::control::confirmation_words(t.link, block.size, true, block.count),
+        shown: distribution_confirmation_words(t.link, block.size, true, block.count),
         ..handled(t, block.count)
     }
 }

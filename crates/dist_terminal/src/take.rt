@@ -3,6 +3,7 @@ ghost use Rattle.std.specs.Prelude.{◌≡◌, length};
 ghost use Rattle.dist_terminal.specs.Take.{delivered_of, take_of, buffer_after, transmit_of, shown_after};
 
 use crate::state::{Held, Terminal};
+use words::control::distribution_confirmation_words;
 use words::link::{block_store, is_short};
 use words::refusal::{Refusal, Stepped, refuse};
 
@@ -12,7 +13,7 @@ fn delivered(t: Terminal, held: Held) -> Terminal
 {
     Terminal {
         hand: None,
-        shown: words::control::confirmation_words(t.link, held.size, false, held.count),
+        shown: distribution_confirmation_words(t.link, held.size, false, held.count),
         ..t
     }
 }

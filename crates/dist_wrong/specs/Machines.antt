@@ -5,10 +5,9 @@ use Rattle.words.specs.Control.{distribution_confirmation_words}
 use Rattle.words.specs.Count.{distribution_count, next_distribution}
 use Rattle.words.specs.Cutting.{messages_of, size_answer_of}
 use Rattle.words.specs.Reading.{read_descriptor_of}
-use Rattle.words.specs.Refusal.{Answer, accept, refuse}
+use Rattle.words.specs.Refusal.{Stepped, Answer, accept, refuse}
 use Rattle.words.specs.declared.refusal.Refusal.{Refusal}
 use Rattle.words.specs.declared.refusal.Refusal.TheVariants.{NotReady, NoAcceptedReset, TransferOpen, TransfersSpent}
-use Rattle.words.specs.declared.refusal.Stepped.{Stepped}
 use Rattle.words.specs.declared.count.DistributionCount.{DistributionCount}
 use Rattle.words.specs.declared.control.Quality.{Quality}
 use Rattle.words.specs.declared.control.Quality.TheVariants.{BestEffort}

@@ -3,10 +3,9 @@
 use Rattle.std.specs.Prelude.{ℕ, cond, not, Option, Some, None, Result, Ok, Err, List, [], length, replicate}
 use Rattle.words.specs.Link.{configured_of}
 use Rattle.words.specs.Control.{quality_of, list_of}
-use Rattle.words.specs.Refusal.{Answer, accept, refuse}
+use Rattle.words.specs.Refusal.{Stepped, Answer, accept, refuse}
 use Rattle.words.specs.declared.refusal.Refusal.{Refusal}
 use Rattle.words.specs.declared.refusal.Refusal.TheVariants.{NotReady, NothingAsked}
-use Rattle.words.specs.declared.refusal.Stepped.{Stepped}
 use Rattle.words.specs.declared.control.Quality.{Quality}
 use Rattle.words.specs.declared.status.Outcome.{Outcome}
 use Rattle.words.specs.declared.status.Outcome.TheVariants.{Done, NoReply}

@@ -7,7 +7,7 @@ use native.Mathlib.Numerals.{add-one}
 use native.Mathlib.Omega.{arith}
 use native.Mathlib.Nat.{zero-add, add-zero, suc-add, add-suc}
 use lib.ListN.{length, take, drop, get_or, set, length-set, length-drop, take-append-drop, drop_of_length-le}
-use lib.Seq.{drop-cons, sets, sets-eq, length-sets, take_at, drop_at, set-append_left, set_out, length-take-le, get_or-take, take-nil, drop-set-lt, take-set-le}
+use lib.Seq.{drop-cons, sets, sets-eq, length-sets, take_at, drop_at, set-append_left, set_out, length-take-le, get_or-take, take-nil, get_or-drop, drop-drop, drop-set-lt, take-set-le}
 use borrow.Rule.Slice.PartMut.{put_mid}
 
 -- ---- a loop that stores vs one by one: what is left to store, from here on, gives the same
@@ -38,6 +38,16 @@ copied_turn l vs i h = turn l vs i (get_or vs i 0) h refl
 -- the last store of a run
 pub last : (l vs : List ℕ) (i v : ℕ) → suc i ≡ length vs → v ≡ get_or vs i 0 → set l i v ≡ sets l i (drop i vs)
 last l vs i v h e = sym (done (set l i v) vs (i + 1) (omega arith)) ∙ turn l vs i v (omega arith) e
+
+-- a run in place: what is not yet stored over is as it was
+pub same_here : (l m : List ℕ) (i : ℕ) → drop i l ≡ drop i m → get_or l i 0 ≡ get_or m i 0
+same_here l m i e =
+    let z : i + 0 ≡ i = omega arith in
+    rw z at (sym (get_or-drop i l 0 0) ∙ ap (λ (r : List ℕ). get_or r 0 0) e ∙ get_or-drop i m 0 0)
+
+pub same_next : (l m : List ℕ) (i v : ℕ) → drop i l ≡ drop i m → drop (i + 1) (set l i v) ≡ drop (i + 1) m
+same_next l m i v e =
+    drop-set-lt (i + 1) l i v (omega arith) ∙ sym (drop-drop 1 i l) ∙ ap (λ (r : List ℕ). drop 1 r) e ∙ drop-drop 1 i m
 
 -- ---- what a run leaves
 
@@ -89,6 +99,14 @@ loaded_turn n l vs i k h =
 
 pub loaded : (n : ℕ) (l vs : List ℕ) (i : ℕ) → n ≤ i → n ≤ length vs → sets l i (drop i (take n vs)) ≡ l
 loaded n l vs i k h = done l (take n vs) i (omega (arith, length-take-le n vs h))
+
+-- a second run over the same places
+pub sets_again : (l us vs : List ℕ) → length us ≡ length vs → length vs ≤ length l → sets (sets l 0 us) 0 vs ≡ sets l 0 vs
+sets_again l us vs e h =
+    let n = length-sets l 0 us in
+    let past : drop (0 + length vs) (sets l 0 us) ≡ drop (0 + length vs) l =
+    rw (sets-eq us l 0 (omega arith), e) (drop_at us (drop (0 + length vs) l) (0 + length vs) (omega arith)) in
+    sets-eq vs (sets l 0 us) 0 (omega arith) ∙ rw past (sym (sets-eq vs l 0 (omega arith)))
 
 -- the start of a list that a run filled
 pub take_sets : (l vs : List ℕ) (n : ℕ) → n ≡ length vs → n ≤ length l → take n (sets l 0 vs) ≡ vs

@@ -21,14 +21,15 @@ pub fn write_words(part: &mut [u8], words: &[u16]) -> usize
     ensures { (result ≡ words_written_of (length part.old) (length words.now))
         × (part.new ≡ written_of part.old words.now) }
 {
+    let fitting = &words[..words.len().min(part.len() / 2)];
     // a whole message, which most are, in moves of many bytes
-    if let Some(message) = words.as_array()
+    if let Some(message) = fitting.as_array()
         && let Some(place) = part.first_chunk_mut()
     {
         *place = bytes_of(*message);
         return 32;
     }
-    write_some(part, words)
+    write_some(part, fitting)
 }
 
 // Writes a message into its place, the 64 bytes from byte `at` of the store on, and says how many words it was.

@@ -1,5 +1,6 @@
 // What several files write: two links, two words, and an answer.
-ghost use Rattle.std.specs.Prelude.{◌≡◌, Err, IfErr, IfOk, IsOk};
+ghost use Rattle.std.specs.Prelude.{◌≡◌, Err, IfErr, IfOk, IsOk, Some};
+ghost use Rattle.vectors_lib.specs.Line.{pair_text};
 
 use std::fmt;
 use std::fmt::Display;
@@ -30,6 +31,8 @@ pub const ONE: Link = Link {
 pub struct Pair(pub Words);
 
 impl Display for Pair {
+    ghost output = { λ pair. Some (pair_text pair.0) };
+
     fn fmt<W: fmt::Write>(&self, f: &mut fmt::Formatter<W>) -> fmt::Result {
         write!(f, "{:04X}\t{:04X}", self.0.first, self.0.second)
     }

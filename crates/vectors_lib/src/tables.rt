@@ -197,10 +197,16 @@ fn made(
     let back = AcquisitionCount(count);
     let error = bool::from(quality);
     let tables = [
-        ("8-3", control::block_words(link, size, quality, there)),
-        ("8-6", control::block_words(link, size, quality, back)),
-        ("8-4", control::confirmation_words(link, size, error, there)),
-        ("8-5", control::confirmation_words(link, size, error, back)),
+        ("8-3", control::descriptor_words(link, size, quality, there)),
+        ("8-6", control::request_words(link, size, quality, back)),
+        (
+            "8-4",
+            control::distribution_confirmation_words(link, size, error, there),
+        ),
+        (
+            "8-5",
+            control::acquisition_confirmation_words(link, size, error, back),
+        ),
     ];
     for (table, words) in tables {
         writeln!(out, "made\t{table}\t{}", Pair(words))?;

@@ -4,7 +4,7 @@ use Rattle.std.specs.Prelude.{ℕ, List, [], ◌∷◌, Result, Ok, Err}
 use Rattle.words.specs.declared.refusal.Refusal.{Refusal}
 use Rattle.words.specs.declared.refusal.Refusal.TheVariants.{NotReady, NoAcceptedReset, BadSize, TransferOpen, TransfersSpent, NotTwoWords, ReservedBits, BadReset, OtherLink, Over1024}
 use Rattle.words.specs.declared.refusal.Refusal.TheVariants.{Over4096, NoReset, LastHandled, HandFull, WrongLength, NothingToTake, ShortBuffer, NothingAsked, BadMessage, BadConfiguration}
-use Rattle.words.specs.declared.refusal.Stepped.{Stepped}
+use Rattle.words.specs.declared.refusal.Stepped.{Stepped as SteppedOr}
 
 abbrev pub refusal_number : Refusal → ℕ
 refusal_number NotReady = 1
@@ -32,18 +32,26 @@ refusal_number BadConfiguration = 20
 abbrev pub Answer : Type 0
 Answer = Result (Unit {0}) Refusal
 
--- 0 where accepted
+-- 0 where accepted; a refusal may be any number
+abbrev pub numbered_of : {E : Type 0} → (E → ℕ) → Result (Unit {0}) E → ℕ
+numbered_of number (Ok u) = 0
+numbered_of number (Err e) = number e
+
+-- the paper's number, 0 where accepted
 abbrev pub number_of : Answer → ℕ
-number_of (Ok u) = 0
-number_of (Err r) = refusal_number r
+number_of answer = numbered_of refusal_number answer
 
 -- the paper's number, 0 for accepted, and the values
 abbrev pub numbers_of : {T : Type 0} → (T → List ℕ) → Result T Refusal → List ℕ
 numbers_of values (Ok x) = 0 ∷ values x
 numbers_of values (Err r) = refusal_number r ∷ []
 
+-- a state beside what the call answers, with the paper's refusals
+abbrev pub Stepped : Type 0 → Type 0 → Type 0
+Stepped S T = SteppedOr S T Refusal
+
 abbrev pub accept : {S : Type 0} → S → Stepped S (Unit {0})
 accept s = record { state = s; answer = Ok tt }
 
-abbrev pub refuse : {S T : Type 0} → Refusal → S → Stepped S T
-refuse r s = record { state = s; answer = Err r }
+abbrev pub refuse : {S T E : Type 0} → E → S → SteppedOr S T E
+refuse e s = record { state = s; answer = Err e }

@@ -1,8 +1,9 @@
 // The two words of a descriptor, a request and a confirmation: one layout for Tables 8-3, 8-4, 8-5 and 8-6.
 ghost use Rattle.std.specs.Prelude.{◌≡◌};
 ghost use Rattle.words.specs.Control.{bit_of, verified_of, quality_of, made_of, reset_words, block_words, confirmation_words};
+ghost use Rattle.words.specs.Control.{descriptor_words, request_words, distribution_confirmation_words, acquisition_confirmation_words};
 
-use crate::count::BlockCount;
+use crate::count::{AcquisitionCount, BlockCount, DistributionCount};
 use crate::link::Link;
 
 #[derive(Clone, Copy)]
@@ -78,6 +79,44 @@ pub fn confirmation_words<C: BlockCount>(link: Link, size: u16, error: bool, cou
     ensures { result ≡ confirmation_words link size error (C.number count) }
 {
     made(link, size, error, count.number())
+}
+
+// Table 8-3.
+pub fn descriptor_words(link: Link, size: u16, quality: Quality, count: DistributionCount) -> Words
+    ensures { result ≡ descriptor_words link size quality count }
+{
+    block_words::<DistributionCount>(link, size, quality, count)
+}
+
+// Table 8-6.
+pub fn request_words(link: Link, size: u16, quality: Quality, count: AcquisitionCount) -> Words
+    ensures { result ≡ request_words link size quality count }
+{
+    block_words::<AcquisitionCount>(link, size, quality, count)
+}
+
+// Table 8-4.
+pub fn distribution_confirmation_words(
+    link: Link,
+    size: u16,
+    error: bool,
+    count: DistributionCount,
+) -> Words
+    ensures { result ≡ distribution_confirmation_words link size error count }
+{
+    confirmation_words::<DistributionCount>(link, size, error, count)
+}
+
+// Table 8-5.
+pub fn acquisition_confirmation_words(
+    link: Link,
+    size: u16,
+    error: bool,
+    count: AcquisitionCount,
+) -> Words
+    ensures { result ≡ acquisition_confirmation_words link size error count }
+{
+    confirmation_words::<AcquisitionCount>(link, size, error, count)
 }
 
 // A Reset in any of the four tables: SIZE, QoS or Error, Mode and count 0, and SA 11.

@@ -1,6 +1,6 @@
 // What a call answers, or why it is refused (document 01, "Numbers a caller may get back").
-ghost use Rattle.std.specs.Prelude.{◌≡◌};
-ghost use Rattle.words.specs.Refusal.{number_of, accept, refuse};
+ghost use Rattle.std.specs.Prelude.{◌≡◌, ℕ};
+ghost use Rattle.words.specs.Refusal.{refusal_number, numbered_of, accept, refuse};
 
 // A name for each of the paper's numbers, which is its discriminant.
 #[derive(Clone, Copy, PartialEq, Eq)]
@@ -44,21 +44,53 @@ pub enum Refusal {
     BadConfiguration = 20,
 }
 
+impl From<Refusal> for u8 {
+    ghost from_gives = { λ refusal n. n ≡ refusal_number refusal };
+
+    fn from(refusal: Refusal) -> u8 {
+        refusal as u8
+    }
+}
+
+// Why a call is refused: one of the paper's by its name, or any number.
+pub trait Numbered: Copy + From<Refusal> {
+    ghost number: { Self → ℕ };
+
+    fn number(self) -> u8
+        ensures { result ≡ number self };
+}
+
+impl Numbered for Refusal {
+    ghost number = { refusal_number };
+
+    fn number(self) -> u8 {
+        u8::from(self)
+    }
+}
+
+impl Numbered for u8 {
+    ghost number = { λ n. n };
+
+    fn number(self) -> u8 {
+        self
+    }
+}
+
 // The number of an answer, 0 where it is accepted.
-pub fn number(answer: Result<(), Refusal>) -> u8
-    ensures { result ≡ number_of answer }
+pub fn number<E: Numbered>(answer: Result<(), E>) -> u8
+    ensures { result ≡ numbered_of E.number answer }
 {
     match answer {
         Ok(()) => 0,
-        Err(refusal) => refusal as u8,
+        Err(refusal) => refusal.number(),
     }
 }
 
 // A state, and what the call answered.
 #[derive(Clone, Copy)]
-pub struct Stepped<S, T> {
+pub struct Stepped<S, T, E = Refusal> {
     pub state: S,
-    pub answer: Result<T, Refusal>,
+    pub answer: Result<T, E>,
 }
 
 pub fn accept<S>(state: S) -> Stepped<S, ()>
@@ -70,7 +102,7 @@ pub fn accept<S>(state: S) -> Stepped<S, ()>
     }
 }
 
-pub fn refuse<S, T>(refusal: Refusal, state: S) -> Stepped<S, T>
+pub fn refuse<S, T, E: Numbered>(refusal: E, state: S) -> Stepped<S, T, E>
     ensures { result ≡ refuse refusal state }
 {
     Stepped {
