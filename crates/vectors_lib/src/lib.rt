@@ -1,6 +1,6 @@
-// Vectors for the crate `words`: each public function there is run on inputs at its edges, and what it answers is written,
+// Vectors for the crate `words`: what it makes, reads, cuts and judges is run on inputs at its edges, and the answer is written,
 // a line to a vector, tab-parted. What each line must be is worked out apart from this code, by tests/vectors.py.
-// No contract says what is written: the functions here are proved safe and ending, and the lines are compared.
+// No contract says what is written, but of two words (`print::Pair`): the functions here are proved safe and ending, and the lines are compared.
 #![tactic(auto)]
 
 mod blocks;
